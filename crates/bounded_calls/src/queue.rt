@@ -1,10 +1,7 @@
 //! A queue's calls: each makes its fast path and then a bounded number of steps.
 use crate::calls::BoundedCalls;
-use bounded::own_op;
-use bounded_model::{Command, MAX_PASSES, Reply, Stepped, of_kind};
-use ms_queue::{AnyOp, Pass, Queue, Queued, Rest, Root, end};
-use queue_machine::Line;
-use queue_table::Operation;
+use bounded_model::{Command, Reply, Stepped};
+use ms_queue::{AnyOp, Pass, Queue, QueueAt, Rest, Root};
 
 impl BoundedCalls<u64> for Queue<u64> {
     ghost use Rattle.bounded_calls.specs.Calls.{Begins};
@@ -35,17 +32,12 @@ impl BoundedCalls<u64> for Queue<u64> {
 
     #[inline]
     fn split_off(&self, parent: &mut Root<u64>) -> Option<Pass<u64>> {
-        let pass = running::split::<u64, Line<u64>, Operation<u64>, Queued>(
-            &self.table.shared,
-            &mut parent.root,
-            MAX_PASSES,
-        )?;
-        Some(Pass { pass, kept: () })
+        self.split(parent)
     }
 
     #[inline]
     fn end_with(self, parent: Root<u64>) -> Rest<u64> {
-        end(self, parent)
+        self.finish(parent)
     }
 
     #[inline(always)]
@@ -53,9 +45,7 @@ impl BoundedCalls<u64> for Queue<u64> {
         requires { IsPassOf self.now by }
         ensures { Begins (queue_reading self.now) by command result }
     {
-        AnyOp {
-            call: self.begin_call(by, command),
-        }
+        self.begin(by, command)
     }
 
     #[inline]
@@ -64,21 +54,30 @@ impl BoundedCalls<u64> for Queue<u64> {
         operation: AnyOp<u64>,
         steps: u64,
     ) -> Stepped<AnyOp<u64>, Pass<u64>, Reply<u64>> {
-        own_op!(AnyOp, self.run_call_for(operation.call, steps))
+        operation.run_for(self, steps)
     }
 
     #[inline(always)]
     fn put_at_once(&self, by: Pass<u64>, value: u64) -> Stepped<AnyOp<u64>, Pass<u64>, Reply<u64>> {
-        own_op!(AnyOp, of_kind!(Put, self.put_at_once(by, value)))
+        match self.put_at_once(by, value) {
+            Stepped::Again(op) => Stepped::Again(QueueAt::of_put(op)),
+            Stepped::Done(back, said) => Stepped::Done(back, Reply::Put(said)),
+        }
     }
 
     #[inline(always)]
     fn take_at_once(&self, by: Pass<u64>) -> Stepped<AnyOp<u64>, Pass<u64>, Reply<u64>> {
-        own_op!(AnyOp, of_kind!(Take, self.take_at_once(by)))
+        match self.take_at_once(by) {
+            Stepped::Again(op) => Stepped::Again(QueueAt::of_take(op)),
+            Stepped::Done(back, said) => Stepped::Done(back, Reply::Take(said)),
+        }
     }
 
     #[inline(always)]
     fn look_at_once(&self, by: Pass<u64>) -> Stepped<AnyOp<u64>, Pass<u64>, Reply<u64>> {
-        own_op!(AnyOp, of_kind!(Look, self.look_at_once(by)))
+        match self.look_at_once(by) {
+            Stepped::Again(op) => Stepped::Again(QueueAt::of_look(op)),
+            Stepped::Done(back, said) => Stepped::Done(back, Reply::Look(said)),
+        }
     }
 }

@@ -1,9 +1,7 @@
 //! A ring's calls: each makes its fast path and then a bounded number of steps.
 use crate::calls::BoundedCalls;
-use bounded::{Program, own_op};
-use bounded_model::{Command, Reply, Stepped, of_kind};
-use ring_queue::{AnyOp, Pass, Rest, RingQueue, Ringed, Root, end};
-use ring_table::{Operation, SeatLine};
+use bounded_model::{Command, Reply, Stepped};
+use ring_queue::{AnyOp, Pass, Rest, RingAt, RingQueue, Root};
 
 impl BoundedCalls<u64> for RingQueue<u64> {
     ghost use Rattle.bounded_calls.specs.Calls.{Begins};
@@ -37,31 +35,12 @@ impl BoundedCalls<u64> for RingQueue<u64> {
 
     #[inline]
     fn split_off(&self, parent: &mut Root<u64>) -> Option<Pass<u64>> {
-        let most = self.limits.passes();
-        if parent.root.out >= most {
-            return None;
-        }
-        let kept = <Ringed as Program<
-            RingQueue<u64>,
-            u64,
-            SeatLine<u64>,
-            Operation<u64>,
-            Ringed,
-            0,
-        >>::give(&self.limits, &mut parent.stock);
-        let Some(pass) = running::split::<u64, SeatLine<u64>, Operation<u64>, Ringed>(
-            &self.table.shared,
-            &mut parent.root,
-            most,
-        ) else {
-            unreachable!()
-        };
-        Some(Pass { pass, kept })
+        self.split(parent)
     }
 
     #[inline]
     fn end_with(self, parent: Root<u64>) -> Rest<u64> {
-        end(self, parent)
+        self.finish(parent)
     }
 
     #[inline(always)]
@@ -69,9 +48,7 @@ impl BoundedCalls<u64> for RingQueue<u64> {
         requires { IsPassOf self.now by }
         ensures { Begins (ring_reading self.now) by command result }
     {
-        AnyOp {
-            call: self.begin_call(by, command),
-        }
+        self.begin(by, command)
     }
 
     #[inline]
@@ -80,21 +57,30 @@ impl BoundedCalls<u64> for RingQueue<u64> {
         operation: AnyOp<u64>,
         steps: u64,
     ) -> Stepped<AnyOp<u64>, Pass<u64>, Reply<u64>> {
-        own_op!(AnyOp, self.run_call_for(operation.call, steps))
+        operation.run_for(self, steps)
     }
 
     #[inline(always)]
     fn put_at_once(&self, by: Pass<u64>, value: u64) -> Stepped<AnyOp<u64>, Pass<u64>, Reply<u64>> {
-        own_op!(AnyOp, of_kind!(Put, self.put_at_once(by, value)))
+        match self.put_at_once(by, value) {
+            Stepped::Again(op) => Stepped::Again(RingAt::of_put(op)),
+            Stepped::Done(back, said) => Stepped::Done(back, Reply::Put(said)),
+        }
     }
 
     #[inline(always)]
     fn take_at_once(&self, by: Pass<u64>) -> Stepped<AnyOp<u64>, Pass<u64>, Reply<u64>> {
-        own_op!(AnyOp, of_kind!(Take, self.take_at_once(by)))
+        match self.take_at_once(by) {
+            Stepped::Again(op) => Stepped::Again(RingAt::of_take(op)),
+            Stepped::Done(back, said) => Stepped::Done(back, Reply::Take(said)),
+        }
     }
 
     #[inline(always)]
     fn look_at_once(&self, by: Pass<u64>) -> Stepped<AnyOp<u64>, Pass<u64>, Reply<u64>> {
-        own_op!(AnyOp, of_kind!(Look, self.look_at_once(by)))
+        match self.look_at_once(by) {
+            Stepped::Again(op) => Stepped::Again(RingAt::of_look(op)),
+            Stepped::Done(back, said) => Stepped::Done(back, Reply::Look(said)),
+        }
     }
 }

@@ -167,10 +167,11 @@ pub record Joins {T : Type 0} (r : RootView T) (v : PassView T) (s : RootView T)
   pub seen : Later v.seen s.seen
 
 -- meet: the first pass, v and then w, has seen what either had, and of each exactly its own
--- events; u is the second
+-- events; u is the second. It counts one step, the load by which it sees
 pub record Meets {T : Type 0} (v u w : PassView T) : Type 0 where
   pub number : w.number ≡ v.number
   pub steps : v.steps < w.steps
+  pub one : w.steps ≡ v.steps + 1
   pub first : Later v.seen w.seen
   pub second : Later u.seen w.seen
   pub own_events : own v.number w.seen ≡ own v.number v.seen
@@ -182,9 +183,10 @@ abbrev pub MeetGives : {T : Type 0} → PassView T → PassView T → PassView T
 MeetGives v u w true = Meets v u w
 MeetGives v u w false = w ≡ v
 
--- heed: the pass has made steps, with no event of its own, and has now seen all that a note tells
+-- heed: the pass has made one step, with no event of its own, and has now seen all that a note tells
 pub record Heeds {T : Type 0} (v : PassView T) (told : List (Event T)) (w : PassView T) : Type 0 where
   pub adds : Adds v w []
+  pub one : w.steps ≡ v.steps + 1
   pub heard : Later told w.seen
   pub answers : Answers v w Heard
 

@@ -18,19 +18,18 @@ ghost use Rattle.told.specs.Writing.{written};
 use crate::inputs::read_inputs;
 use crate::outcome::write_outcome;
 use crate::tool_fault::ToolFault;
-use bounded::Parts;
 use bounded_model::Container;
-use ms_queue::Queued;
+use ms_queue::Queue;
 use relay::{FreeGate, Gate, Message, Plan, Relayed, run};
 use relay_args::{Kind, MAX_RELAY_PASSES, RelayArgs};
-use ring_queue::{MAX_LAPS, RingLimits, Ringed};
+use ring_queue::{MAX_LAPS, RingLimits, RingQueue};
 use std::alloc::Global;
 use std::io::{Read, Write};
 use std::mem;
 use std::sync::Wait;
 use std::thread::Threads;
 use tagged_index::{Limits, MAX_TAG};
-use treiber_stack::Stacked;
+use treiber_stack::Stack;
 
 /// Relays what the readers give, and keeps all messages in memory for the life of the process.
 ///
@@ -87,21 +86,15 @@ pub(crate) fn relay_inputs<T: Threads + Wait + Sync, G: Gate + Sync>(
 {
     match args.kind {
         Kind::Queue => {
-            let (queue, root) = <Queued as Parts<_, _, _, _, _, 2>>::make(alloc, limits_for(args))?;
+            let (queue, root) = Queue::new(alloc, limits_for(args))?;
             relay_through(rt, alloc, queue, root, args, inputs, gate)
         }
         Kind::Stack => {
-            let (stack, root) = <Stacked as Parts<_, _, _, _, _, 2>>::make(
-                alloc,
-                limits_for(args),
-            )?;
+            let (stack, root) = Stack::new(alloc, limits_for(args))?;
             relay_through(rt, alloc, stack, root, args, inputs, gate)
         }
         Kind::Ring => {
-            let (ring, root) = <Ringed as Parts<_, _, _, _, _, 0>>::make(
-                alloc,
-                ring_limits_for(args),
-            )?;
+            let (ring, root) = RingQueue::new(alloc, ring_limits_for(args))?;
             relay_through(rt, alloc, ring, root, args, inputs, gate)
         }
     }

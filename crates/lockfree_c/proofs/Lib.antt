@@ -2,7 +2,6 @@ pub mod AsBox
 pub mod New
 pub mod NoRoom
 pub mod Stays
-pub mod OpsOn
 pub mod Rests
 pub mod QueueStays
 pub mod RingStays

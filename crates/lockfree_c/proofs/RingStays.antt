@@ -1,19 +1,14 @@
 -- A ring's count or gauge that was tried leaves one that goes on, or a pass at rest.
-use Rattle.std.proofs.Common.{refl, sym, subst₂}
+use Rattle.std.proofs.Common.{sym, subst₂}
 use Rattle.std.specs.Prelude.{ℕ}
-use Rattle.bounded_model.specs.declared.answers.Stepped.{Stepped}
 use Rattle.bounded_model.specs.declared.answers.Stepped.TheVariants.{Again, Done}
 use Rattle.bounded_model.specs.declared.views.PassView.{PassView}
-use Rattle.running.specs.Ops.{OpRan}
+use Rattle.running.specs.Kept.{OpRunsFor}
 use Rattle.running.specs.Passes.{begun_of}
-use Rattle.running.specs.declared.passes.Pass as runs
-use Rattle.bounded.specs.Joined.{joined}
 use Rattle.ring_queue.specs.Counting.{IsCounting, LenOp, len_account}
 use Rattle.ring_queue.specs.Gauging.{GaugeOp, IsGauging, gauge_account}
 use Rattle.ring_queue.specs.KeepsGauge.{gauge_promises, len_promises}
-use Rattle.ring_queue.specs.Ring.{Answered, keeps, machine_of}
-use Rattle.ring_queue.specs.declared.calls.gauging.Gauge.{Gauge}
-use Rattle.ring_table.specs.declared.line.SeatLine.{SeatLine}
+use Rattle.ring_queue.specs.Ring.{keeps, machine_of}
 use Rattle.bounded_calls.specs.Readings.{ring_reading}
 use Rattle.lockfree_c.specs.Held.{IsHeld}
 use Rattle.lockfree_c.specs.Kinds.{Ring}
@@ -21,7 +16,6 @@ use Rattle.lockfree_c.specs.Rings.{CountLeft, CountMade, CountTried, GaugeLeft, 
 use Rattle.lockfree_c.specs.declared.answers.Answer.{Answer}
 use Rattle.lockfree_c.specs.declared.held.Held.{Held}
 use Rattle.lockfree_c.specs.declared.held.Held.TheVariants.{RingPass as OfRingPass, RingCount as OfRingCount, RingGauge as OfRingGauge}
-use Rattle.lockfree_c.proofs.OpsOn.{goes_on}
 use Rattle.lockfree_c.proofs.Rests.{comes_to_rest}
 
 module _ (c : Ring) (begun : PassView ℕ) where
@@ -36,17 +30,16 @@ module _ (c : Ring) (begun : PassView ℕ) where
   gauge_stays made g a tried left = absurd left
 
 -- some steps of a count, and of a gauge
-abbrev Made : Type 0 → Type 0 → Type 0
-Made Op A = Stepped Op (runs.Pass ℕ (SeatLine ℕ)) (Answered A)
+abbrev pub CountRan : Ring → ℕ → LenOp ℕ → CountMade → Type 0
+CountRan c n op made = OpRunsFor (machine_of c) (len_account c.table.shared.key) keeps c.table.shared.table_id (len_promises c.table.shared.key) n op made
 
-abbrev pub CountRan : Ring → ℕ → LenOp ℕ → Made (LenOp ℕ) ℕ → Type 0
-CountRan c n op made = OpRan (machine_of c) (len_account c.table.shared.key) c.table.shared.table_id (len_promises c.table.shared.key) n op made
+abbrev pub GaugeRan : Ring → ℕ → GaugeOp ℕ → GaugeMade → Type 0
+GaugeRan c n op made = OpRunsFor (machine_of c) (gauge_account c.table.shared.key) keeps c.table.shared.table_id (gauge_promises c.table.shared.key) n op made
 
-abbrev pub GaugeRan : Ring → ℕ → GaugeOp ℕ → Made (GaugeOp ℕ) Gauge → Type 0
-GaugeRan c n op made = OpRan (machine_of c) (gauge_account c.table.shared.key) c.table.shared.table_id (gauge_promises c.table.shared.key) n op made
+pub counts_on : (c : Ring) (n : ℕ) (op : LenOp ℕ) → IsCounting c op → (made : CountMade) → CountRan c n op made → CountTried c (begun_of (machine_of c) op.pass) made
+counts_on c n op is (Again next) ran = (ran.0, ran.1)
+counts_on c n op is (Done back count) ran = (ran.0.of, ran.0.gives is.named)
 
-pub counts_on : (c : Ring) (n : ℕ) (op : LenOp ℕ) (made : Made (LenOp ℕ) ℕ) → CountRan c n op made → CountTried c (begun_of (machine_of c) op.pass) (joined made)
-counts_on c n op made ran = goes_on (machine_of c) keeps c.table.shared.table_id (len_account c.table.shared.key) (λ o a. refl) (len_promises c.table.shared.key) n op made ran
-
-pub gauges_on : (c : Ring) (n : ℕ) (op : GaugeOp ℕ) (made : Made (GaugeOp ℕ) Gauge) → GaugeRan c n op made → GaugeTried c (begun_of (machine_of c) op.pass) (joined made)
-gauges_on c n op made ran = goes_on (machine_of c) keeps c.table.shared.table_id (gauge_account c.table.shared.key) (λ o a. refl) (gauge_promises c.table.shared.key) n op made ran
+pub gauges_on : (c : Ring) (n : ℕ) (op : GaugeOp ℕ) → IsGauging c op → (made : GaugeMade) → GaugeRan c n op made → GaugeTried c (begun_of (machine_of c) op.pass) made
+gauges_on c n op is (Again next) ran = (ran.0, ran.1)
+gauges_on c n op is (Done back shown) ran = (ran.0.of, ran.0.gives is.named)

@@ -7,7 +7,7 @@ use Rattle.bounded_model.specs.declared.answers.Stepped.TheVariants as stepped
 use Rattle.bounded_model.specs.Laws.{Answers}
 use Rattle.bounded_model.specs.declared.views.Answered.TheVariants as answered
 use Rattle.bounded_model.specs.declared.views.PassView.{PassView}
-use Rattle.bounded.specs.Bounded.{pass_in}
+use Rattle.running.specs.Kept.{pass_in}
 use Rattle.running.specs.Passes.{begun_of}
 use Rattle.ms_queue.specs.Gauging.{GaugeGives, GaugeOp, IsGauging}
 use Rattle.ms_queue.specs.Queue as queue

@@ -1,5 +1,5 @@
 -- What holds between calls of what lies behind a handle, and what the calls do to it.
-use Rattle.std.specs.Prelude.{◌≡◌, ◌≤◌, ◌+◌, ◌⊎◌, ℕ, List, [], ◌∷◌, ◌++◌, map, Bool, true, false, Option, Some, IsSome, Result, MatchOption, MatchResult, None}
+use Rattle.std.specs.Prelude.{◌≡◌, ◌≤◌, ◌+◌, ◌⊎◌, ℕ, List, [], ◌∷◌, ◌++◌, map, Bool, true, false, Option, Some, IsSome, Result, MatchOption, MatchResult}
 use Rattle.std.specs.List.{AllByRecursion as Every}
 use Rattle.tagged_index.specs.declared.limit.TheConstants.{MIN_CAPACITY, MAX_CAPACITY, MIN_TAG_LIMIT}
 use Rattle.tagged_index.specs.declared.word.TheConstants.{MAX_TAG, NULL}
@@ -12,7 +12,7 @@ use Rattle.bounded_model.specs.declared.bulk.RangeRefused.{RangeRefused}
 use Rattle.bounded_model.specs.declared.commands.Command.{Command}
 use Rattle.index_list.specs.declared.front.Front.{Front}
 use Rattle.index_list.specs.declared.front.Front.TheVariants.{First, Last}
-use Rattle.bounded.specs.Bounded.{pass_in, root_in}
+use Rattle.running.specs.Kept.{pass_in, root_in}
 use Rattle.running.specs.Passes.{begun_of}
 use Rattle.queue_machine.specs.Answers as queue_machine
 use Rattle.stack_machine.specs.Answers as stack_machine
@@ -44,7 +44,7 @@ use Rattle.lockfree_c.specs.Kinds.{Queue, QueuePass, QueueRoot, RingPass, RingRo
 use Rattle.lockfree_c.specs.Shares.{HandsOut, IsEnded, IsPass, PassCalled, PassWentOn, SplitOff, SplitRefused}
 use Rattle.lockfree_c.specs.Stages.{Rests, SaysNumber}
 use Rattle.lockfree_c.specs.declared.answers.Answer.{Answer}
-use Rattle.lockfree_c.specs.declared.answers.TheConstants.{OK, EMPTY, BUSY, UNDER_WAY, NO_CALL, NO_MEMORY, NO_PASS, BAD_CAPACITY, OTHER_HANDLE, VALUE, SHARED}
+use Rattle.lockfree_c.specs.declared.answers.TheConstants.{OK, EMPTY, BUSY, UNDER_WAY, NO_CALL, NO_MEMORY, BAD_CAPACITY, OTHER_HANDLE, VALUE, SHARED}
 use Rattle.lockfree_c.specs.declared.held.Held.{Held}
 use Rattle.lockfree_c.specs.declared.held.Held.TheVariants.{Nothing, QueueRoot as OfQueueRoot, QueuePass as OfQueuePass, QueueCount as OfQueueCount, QueueGauge as OfQueueGauge, StackRoot as OfStackRoot, StackPass as OfStackPass, StackFold as OfStackFold, StackRange as OfStackRange, StackRangePut as OfStackRangePut, StackCopy as OfStackCopy, RingRoot as OfRingRoot, RingPass as OfRingPass, RingCount as OfRingCount, RingGauge as OfRingGauge, QueueRest as OfQueueRest, StackRest as OfStackRest, RingRest as OfRingRest}
 use Rattle.lockfree_c.specs.declared.held.QueueCount.{QueueCount}

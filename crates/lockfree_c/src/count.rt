@@ -14,9 +14,8 @@ use crate::held::{Held, QueueCount, QueuePass};
 use crate::pass::PassOf;
 use crate::stage::Stage;
 use crate::steps::{QUEUE_COUNT, steps_for};
-use bounded::joined;
 use bounded_model::Stepped;
-use ms_queue::{LenOp, Pass, Queue, len_at_once};
+use ms_queue::{LenOp, Pass, Queue};
 use std::alloc::Global;
 use std::sync::Arc;
 
@@ -49,7 +48,7 @@ pub fn begin_count(pass: QueuePass, tries: u64) -> (Held, Answer)
 {
     let mut pass = pass;
     match pass.stage.resting.take() {
-        Some(by) => match len_at_once(&pass.container, by) {
+        Some(by) => match pass.container.len_at_once(by) {
             Stepped::Done(by, count) => left(pass.container, Stepped::Done(by, count)),
             Stepped::Again(op) => {
                 let container = pass.container;
@@ -68,7 +67,7 @@ impl QueueCount {
         ensures gives { CountWentOn self result.0 result.1 }
     {
         let QueueCount { container, op } = self;
-        let made = joined(op.run_for(&container, steps_for(QUEUE_COUNT, tries)));
+        let made = op.run_for(&container, steps_for(QUEUE_COUNT, tries));
         left(container, made)
     }
 }

@@ -15,13 +15,11 @@ use crate::pass::PassOf;
 use crate::ring::begin_ring_gauge;
 use crate::stage::Stage;
 use crate::steps::{QUEUE_GAUGE, steps_for};
-use bounded::joined;
 use bounded_model::Stepped;
-use ms_queue::{self, Gauge, GaugeOp, Pass, Queue};
+use ms_queue::{Gauge, GaugeOp, Pass, Queue};
 use std::alloc::Global;
 use std::mem;
 use std::sync::Arc;
-use treiber_stack::read_gauge;
 
 // What the handle holds after a queue's gauge was tried, and the answer.
 fn left(
@@ -56,7 +54,7 @@ pub fn begin_gauge(pass: QueuePass, tries: u64) -> (Held, Answer)
     let mut pass = pass;
     match pass.stage.resting.take() {
         Some(by) => {
-            let op = ms_queue::begin_gauge(&pass.container, by);
+            let op = pass.container.begin_gauge(by);
             let container = pass.container;
             QueueGauge { container, op }.go_on(tries)
         }
@@ -72,7 +70,7 @@ impl QueueGauge {
         ensures gives { GaugeWentOn self result.0 result.1 }
     {
         let QueueGauge { container, op } = self;
-        let made = joined(op.run_for(&container, steps_for(QUEUE_GAUGE, tries)));
+        let made = op.run_for(&container, steps_for(QUEUE_GAUGE, tries));
         left(container, made)
     }
 }
@@ -86,7 +84,7 @@ pub fn stack_gauge(pass: &mut StackPass) -> Answer
 {
     match pass.stage.resting.take() {
         Some(by) => {
-            let (by, shown) = read_gauge(&pass.container, by);
+            let (by, shown) = pass.container.gauge(by);
             pass.stage = Stage::of(by, 0);
             Answer::of_gauge(shown.closed, shown.used)
         }

@@ -3,7 +3,7 @@ ghost use Rattle.std.specs.Prelude.{◌≡◌, ℕ, MatchResult};
 ghost use Rattle.bounded_model.specs.Laws.{fresh};
 ghost use Rattle.queue_machine.specs.Answers as queue_machine;
 ghost use Rattle.stack_machine.specs.Answers as stack_machine;
-ghost use Rattle.bounded.specs.Bounded.{root_in};
+ghost use Rattle.running.specs.Kept.{root_in};
 ghost use Rattle.ring_queue.specs.Ring as ring;
 ghost use Rattle.ring_table.specs.Core.{shape_for};
 ghost use Rattle.ms_queue.specs.Queue as queue;

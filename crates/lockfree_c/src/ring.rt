@@ -14,9 +14,8 @@ use crate::held::{Held, RingCount, RingGauge, RingPass};
 use crate::pass::PassOf;
 use crate::stage::Stage;
 use crate::steps::{RING_COUNT, RING_GAUGE, steps_for};
-use bounded::joined;
 use bounded_model::Stepped;
-use ring_queue::{Gauge, GaugeOp, LenOp, Pass, RingQueue, begin_gauge, begin_len};
+use ring_queue::{Gauge, GaugeOp, LenOp, Pass, RingQueue};
 use std::alloc::Global;
 use std::sync::Arc;
 
@@ -71,7 +70,7 @@ impl RingCount {
         ensures gives { CountWentOn self result.0 result.1 }
     {
         let RingCount { container, op } = self;
-        let made = joined(op.run_for(&container, steps_for(RING_COUNT, tries)));
+        let made = op.run_for(&container, steps_for(RING_COUNT, tries));
         count_left(container, made)
     }
 }
@@ -84,7 +83,7 @@ impl RingGauge {
         ensures gives { GaugeWentOn self result.0 result.1 }
     {
         let RingGauge { container, op } = self;
-        let made = joined(op.run_for(&container, steps_for(RING_GAUGE, tries)));
+        let made = op.run_for(&container, steps_for(RING_GAUGE, tries));
         gauge_left(container, made)
     }
 }
@@ -99,7 +98,7 @@ pub fn begin_ring_count(pass: RingPass, tries: u64) -> (Held, Answer)
     let mut pass = pass;
     match pass.stage.resting.take() {
         Some(by) => {
-            let op = begin_len(&pass.container, by);
+            let op = pass.container.begin_len(by);
             let container = pass.container;
             RingCount { container, op }.go_on(tries)
         }
@@ -116,7 +115,7 @@ pub fn begin_ring_gauge(pass: RingPass, tries: u64) -> (Held, Answer)
     let mut pass = pass;
     match pass.stage.resting.take() {
         Some(by) => {
-            let op = begin_gauge(&pass.container, by);
+            let op = pass.container.begin_gauge(by);
             let container = pass.container;
             RingGauge { container, op }.go_on(tries)
         }

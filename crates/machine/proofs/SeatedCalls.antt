@@ -61,9 +61,9 @@ module _ {T L : Type 0} where
   pub looks : (c : Shape) (h : List (Event T)) (v : View T L) → Legal c h → Knows h v → Looks c v (looked h v)
   looks c h (AtRoot r heard l) legal f = (record r { seen = h }, refl, refl, refl, refl, f.seen, f.heard_seen, rooted_sound c h r heard legal f)
   looks c h (AtPass p begun l) legal f = (stepped h p.answers p, refl, refl, adds_none h p.answers p f, legal)
-  looks c h (AtMeeting p xs k q ys l) legal f = (hearing h p, refl, record { number = refl; steps = omega arith; first = f.0.seen; second = f.1.seen; own_events = f.0.own_events; others = f.1.own_events; answers = refl }, legal)
+  looks c h (AtMeeting p xs k q ys l) legal f = (hearing h p, refl, record { number = refl; steps = omega arith; one = refl; first = f.0.seen; second = f.1.seen; own_events = f.0.own_events; others = f.1.own_events; answers = refl }, legal)
   looks c h (AtNote told) legal f = tt
-  looks c h (AtHearing p xs l told) legal f = (hearing h p, refl, record { adds = adds_none h (Heard ∷ p.answers) p f.0; heard = f.1; answers = refl }, legal)
+  looks c h (AtHearing p xs l told) legal f = (hearing h p, refl, record { adds = adds_none h (Heard ∷ p.answers) p f.0; one = refl; heard = f.1; answers = refl }, legal)
   looks c h Left legal f = tt
 
   -- a view that is known to be a root's or a pass's, in terms of what is read off it

@@ -1,11 +1,9 @@
 -- Where a close goes on.
 use Rattle.std.specs.Prelude.{Option as Slot}
 use Rattle.std.proofs.Common.{◌≡◌, ℕ, Bool, false, List, [], refl, sym, subst}
-use Rattle.bounded.specs.declared.bounded.Laid as laid
 use Rattle.queue_machine.specs.declared.lines.Line.{Line}
 use Rattle.queue_machine.specs.declared.lines.Seeking.{Seeking as Aim}
 use Rattle.queue_machine.specs.declared.lines.Seeking.TheVariants.{ToClose}
-use Rattle.queue_table.specs.declared.operation.Operation.{Operation}
 use Rattle.queue_table.specs.Lines.{names, next}
 use Rattle.running.specs.Code.{Came, Finding, Leads}
 use Rattle.running.specs.declared.access.Outcome.{Outcome}
@@ -28,7 +26,7 @@ marking (Lost at) = Lost (Seeking at)
 marking (Done (EndClosed w)) = Done (record { kept = tt; reply = false })
 marking (Done (Open w x)) = On (Mark w x)
 
-module _ {T P : Type 0} {g : laid.Ghosts P T (Line T) (Operation T)} (c : Queue T P g) where
+module _ {T : Type 0} (c : Queue T) where
   abbrev pub ClosesTo : CloseAt → List (ℕ × Slot T) → Next CloseAt (Answered Bool) → Line T → Type 0
   ClosesTo s has to l = Leads names (close_account c.table.shared.key) s l has to
 

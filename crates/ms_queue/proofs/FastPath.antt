@@ -1,6 +1,5 @@
 -- Some steps of an operation after others, where the operation went on.
 use Rattle.std.proofs.Common.{◌≡◌, ℕ, Bool}
-use Rattle.bounded.specs.declared.bounded.Laid as laid
 use Rattle.queue_machine.specs.declared.lines.Line.{Line}
 use Rattle.queue_table.specs.declared.operation.Operation.{Operation}
 use Rattle.running.specs.Passes.{begun_of}
@@ -17,7 +16,7 @@ use Rattle.ms_queue.specs.Looking.{LookRan, look_account}
 use Rattle.ms_queue.specs.Putting.{Answer as PutAnswer, PutRan, put_account}
 use Rattle.ms_queue.specs.Taking.{Answer as TakeAnswer, TakeRan, take_account}
 
-module _ {T P : Type 0} {g : laid.Ghosts P T (Line T) (Operation T)} (c : Queue T P g) (o : Operation T) (p q t : Pass T (Line T)) where
+module _ {T : Type 0} (c : Queue T) (o : Operation T) (p q t : Pass T (Line T)) where
   pub put_after : begun_of (machine_of c) q ≡ begun_of (machine_of c) p → (r : Next (PutAt T) (PutAnswer T)) → PutRan c o q t r → PutRan c o p t r
   put_after begun r ran = ran_on (machine_of c) (put_account c.table.shared.key) c.table.shared.table_id o p q t begun r ran
 

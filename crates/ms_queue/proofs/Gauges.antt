@@ -10,8 +10,6 @@ use Rattle.running.specs.declared.access.Outcome.{Outcome}
 use Rattle.running.specs.declared.code.Next.{Next}
 use Rattle.running.specs.declared.code.Next.TheVariants.{On, Lost, Done}
 use Rattle.tagged_index.specs.Fields.{tag_of}
-use Rattle.bounded.specs.declared.bounded.Laid as laid
-use Rattle.queue_table.specs.declared.operation.Operation.{Operation}
 use Rattle.ms_queue.specs.declared.calls.gauging.Gauge.{Gauge}
 use Rattle.ms_queue.specs.declared.calls.gauging.GaugeAt.{GaugeAt}
 use Rattle.ms_queue.specs.declared.calls.gauging.GaugeAt.TheVariants.{Seeking, CheckNext}
@@ -30,7 +28,7 @@ gauging (Lost at) = Lost (Seeking at)
 gauging (Done (EndClosed w)) = Done (record { kept = tt; reply = record { closed = true; used = tag_of w } })
 gauging (Done (Open w x)) = On (CheckNext w x)
 
-module _ {T P : Type 0} {g : laid.Ghosts P T (Line T) (Operation T)} (c : Queue T P g) where
+module _ {T : Type 0} (c : Queue T) where
   abbrev pub GaugesTo : GaugeAt → List (ℕ × Slot T) → Next GaugeAt (Answered Gauge) → Line T → Type 0
   GaugesTo s has to l = Leads names (gauge_account c.table.shared.key) s l has to
 

@@ -9,8 +9,6 @@ use Rattle.running.specs.Code.{Finding}
 use Rattle.running.specs.declared.access.Outcome.{Outcome}
 use Rattle.running.specs.declared.code.Next.{Next}
 use Rattle.running.proofs.Leading.{finding}
-use Rattle.bounded.specs.declared.bounded.Laid as laid
-use Rattle.queue_table.specs.declared.operation.Operation.{Operation}
 use Rattle.ms_queue.specs.declared.call_parts.giving.Held.{Held}
 use Rattle.ms_queue.specs.declared.call_parts.giving.Give.{Give}
 use Rattle.ms_queue.specs.declared.call_parts.giving.Give.TheVariants.{LoadNodes}
@@ -22,7 +20,7 @@ busy_giving a held LoadNodes = refl
 busy_giving a held at = refl
 
 -- what a step of giving back leads to in an operation, if it does so of whatever was found
-module _ {T P : Type 0} {g : laid.Ghosts P T (Line T) (Operation T)} (c : Queue T P g) (a : Answer T) (held : Held) (at : Give) (r : Outcome) (has : List (ℕ × Slot T)) (to : Next Give (Unit {0})) (gave : GaveTo c a held at r has to) where
+module _ {T : Type 0} (c : Queue T) (a : Answer T) (held : Held) (at : Give) (r : Outcome) (has : List (ℕ × Slot T)) (to : Next Give (Unit {0})) (gave : GaveTo c a held at r has to) where
   pub gave_within : (So : Line T → Type 0) → ((l : Line T) → Gives l a held has to → So l) → Finding (machine_of c).core (give_line a held at) r (held_slot held) has (λ found brought. So (next (limit_of c) (give_line a held at) found brought))
   gave_within So follows = finding (machine_of c).core (give_line a held at) r (held_slot held) has (λ found brought. Gives (next (limit_of c) (give_line a held at) found brought) a held has to) (λ found brought. So (next (limit_of c) (give_line a held at) found brought))
       (λ found brought. follows (next (limit_of c) (give_line a held at) found brought)) ((machine_of c).core.access (give_line a held at)) gave

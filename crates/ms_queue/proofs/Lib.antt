@@ -7,4 +7,5 @@ pub mod Takes
 pub mod Puts
 pub mod FastPath
 pub mod Gauges
-pub mod Counts
+pub mod Every
+pub mod Returns

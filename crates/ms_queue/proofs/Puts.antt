@@ -16,8 +16,6 @@ use Rattle.running.specs.Code.{Came, Finding, Leads}
 use Rattle.running.specs.declared.access.Outcome.{Outcome}
 use Rattle.running.specs.declared.code.Next.{Next as Onward}
 use Rattle.running.specs.declared.code.Next.TheVariants.{On, Lost, Done as Answered}
-use Rattle.queue_table.specs.declared.operation.Operation.{Operation}
-use Rattle.bounded.specs.declared.bounded.Laid as laid
 use Rattle.ms_queue.specs.declared.call_parts.giving.Give.{Give}
 use Rattle.ms_queue.specs.declared.call_parts.giving.Give.TheVariants.{LoadNodes}
 use Rattle.ms_queue.specs.declared.call_parts.giving.Held.{Held}
@@ -45,7 +43,7 @@ module _ {T : Type 0} where
   one_value zs us vs i j x y e f = sym (ap (value_or x) e) ∙ ap (value_or x) f
 
 -- where the code of a put goes on
-module _ {T P : Type 0} {g : laid.Ghosts P T (Line T) (Operation T)} (c : Queue T P g) where
+module _ {T : Type 0} (c : Queue T) where
   abbrev pub PutsTo : PutAt T → List (ℕ × Slot T) → Onward (PutAt T) (Answer T) → Line T → Type 0
   PutsTo s has to l = Leads names (put_account c.table.shared.key) s l has to
 

@@ -9,8 +9,6 @@ use Rattle.running.specs.Code.{Came, Finding}
 use Rattle.running.specs.declared.access.Outcome.{Outcome}
 use Rattle.running.specs.declared.code.Next.{Next}
 use Rattle.running.proofs.Leading.{finding}
-use Rattle.bounded.specs.declared.bounded.Laid as laid
-use Rattle.queue_table.specs.declared.operation.Operation.{Operation}
 use Rattle.ms_queue.specs.declared.call_parts.seeking.Seek.{Seek}
 use Rattle.ms_queue.specs.declared.call_parts.seeking.Seek.TheVariants.{LoadTail as SeekTail}
 use Rattle.ms_queue.specs.declared.call_parts.seeking.End.{End}
@@ -22,7 +20,7 @@ busy s SeekTail = refl
 busy s at = refl
 
 -- what a step on this way leads to in an operation, if it does so of whatever was found
-module _ {T P : Type 0} {g : laid.Ghosts P T (Line T) (Operation T)} (c : Queue T P g) (s : Seeking T) (at : Seek) (r : Outcome) (had has : List (ℕ × Slot T)) (to : Next Seek End) (sought : SoughtTo c s at r had has to) (came : Came (machine_of c).core (seek_line s at) r had has) where
+module _ {T : Type 0} (c : Queue T) (s : Seeking T) (at : Seek) (r : Outcome) (had has : List (ℕ × Slot T)) (to : Next Seek End) (sought : SoughtTo c s at r had has to) (came : Came (machine_of c).core (seek_line s at) r had has) where
   pub sought_within : (So : Line T → Type 0) → ((l : Line T) → Seeks c l s had has to → So l) → Finding (machine_of c).core (seek_line s at) r had has (λ found brought. So (next (limit_of c) (seek_line s at) found brought))
   sought_within So follows = finding (machine_of c).core (seek_line s at) r had has (λ found brought. Seeks c (next (limit_of c) (seek_line s at) found brought) s had has to) (λ found brought. So (next (limit_of c) (seek_line s at) found brought))
       (λ found brought. follows (next (limit_of c) (seek_line s at) found brought)) ((machine_of c).core.access (seek_line s at)) (sought came)

@@ -18,8 +18,6 @@ use Rattle.running.specs.declared.access.Outcome.{Outcome}
 use Rattle.running.specs.declared.code.Next.{Next}
 use Rattle.running.specs.declared.code.Next.TheVariants.{On, Lost, Done}
 use Rattle.running.specs.Tables.{line_of, values}
-use Rattle.bounded.specs.declared.bounded.Laid as laid
-use Rattle.queue_table.specs.declared.operation.Operation.{Operation}
 use Rattle.ms_queue.specs.declared.call_parts.giving.Give.{Give}
 use Rattle.ms_queue.specs.declared.call_parts.giving.Give.TheVariants.{LoadNodes}
 use Rattle.ms_queue.specs.declared.call_parts.giving.Held.{Held}
@@ -54,7 +52,7 @@ returning t (On at) = On (GiveBack t at)
 returning t (Lost at) = Lost (GiveBack t at)
 returning t (Done x) = Done (record { kept = tt; reply = Ok (t.value, t.number) })
 
-module _ {T P : Type 0} {g : laid.Ghosts P T (Line T) (Operation T)} (c : Queue T P g) where
+module _ {T : Type 0} (c : Queue T) where
   abbrev pub TakesTo : TakeAt T → List (ℕ × Slot T) → Next (TakeAt T) (Answer T) → Line T → Type 0
   TakesTo s has to l = Leads names (take_account c.table.shared.key) s l has to
 

@@ -4,8 +4,7 @@ use Rattle.tagged_index.specs.Fields.{fields_of, index_of, tag_of}
 use Rattle.tagged_index.specs.Limits.{capacity_of, tag_limit_of}
 use Rattle.tagged_index.specs.declared.limit.Limits.{Limits}
 use Rattle.running.specs.Code.{Account, to_answer}
-use Rattle.bounded.specs.Bounded.{Makes}
-use Rattle.bounded.specs.declared.bounded.Laid as laid
+use Rattle.running.specs.Kept.{Makes}
 use Rattle.bounded_model.specs.declared.commands.Command.TheVariants.{Close as CloseCall}
 use Rattle.queue_table.specs.declared.operation.Operation.{Operation}
 use Rattle.queue_machine.specs.declared.lines.Seeking.TheVariants.{ToClose}
@@ -39,6 +38,6 @@ module _ {T : Type 0} where
   abbrev pub close_account : Limits → Account T (Line T) (Operation T) CloseAt (Answered Bool)
   close_account k = to_answer (λ at. CloseFirst) close_line (λ at. []) (λ at. HasReadToClose (capacity_of k) (tag_limit_of k) at) (λ o a. ends (AnswerClose a.reply))
 
-module _ {T P : Type 0} {g : laid.Ghosts P T (Line T) (Operation T)} where
-  abbrev pub IsClosing : Queue T P g → CloseOp T → Type 0
+module _ {T : Type 0} where
+  abbrev pub IsClosing : Queue T → CloseOp T → Type 0
   IsClosing c op = Makes (machine_of c) (close_account c.table.shared.key) c.table.shared.table_id (is_call CloseCall) op

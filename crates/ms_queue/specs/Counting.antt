@@ -17,7 +17,6 @@ use Rattle.running.specs.declared.passes.Pass.{Pass}
 use Rattle.running.specs.declared.op.Op.{Op}
 use Rattle.ms_queue.specs.declared.calls.counting.LenAt.{LenAt}
 use Rattle.ms_queue.specs.declared.calls.counting.LenAt.TheVariants.{LoadHead, LoadTail, LoadNext, CheckHead}
-use Rattle.bounded.specs.declared.bounded.Laid as laid
 use Rattle.ms_queue.specs.Queue.{Queue, Answered, machine_of}
 
 -- what was read names a node
@@ -40,14 +39,14 @@ module _ {T : Type 0} where
   abbrev pub len_account : Limits → Account T (Line T) (Operation T) LenAt (Answered ℕ)
   len_account k = to_answer (λ at. LenFirst) len_line (λ at. []) (λ at. HasReadToCount (capacity_of k) at) (λ o a. ends (AnswerLen a.reply))
 
-module _ {T P : Type 0} {g : laid.Ghosts P T (Line T) (Operation T)} where
+module _ {T : Type 0} where
   -- a whole call is at this
-  abbrev pub LenStands : Queue T P g → Pass T (Line T) → LenAt → Type 0
+  abbrev pub LenStands : Queue T → Pass T (Line T) → LenAt → Type 0
   LenStands c p at = Stands (machine_of c) (len_account c.table.shared.key) c.table.shared.table_id p at
 
   -- what some steps of it give
-  abbrev pub LenRan : Queue T P g → Operation T → Pass T (Line T) → Pass T (Line T) → Next LenAt (Answered ℕ) → Type 0
+  abbrev pub LenRan : Queue T → Operation T → Pass T (Line T) → Pass T (Line T) → Next LenAt (Answered ℕ) → Type 0
   LenRan c o p q r = Ran (machine_of c) (len_account c.table.shared.key) c.table.shared.table_id o p q r
 
-  abbrev pub IsCounting : Queue T P g → LenOp T → Type 0
+  abbrev pub IsCounting : Queue T → LenOp T → Type 0
   IsCounting c op = IsUnderWay (machine_of c) (len_account c.table.shared.key) c.table.shared.table_id op

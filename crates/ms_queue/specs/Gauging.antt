@@ -20,7 +20,6 @@ use Rattle.running.specs.declared.op.Op.{Op}
 use Rattle.ms_queue.specs.declared.calls.gauging.Gauge.{Gauge}
 use Rattle.ms_queue.specs.declared.calls.gauging.GaugeAt.{GaugeAt}
 use Rattle.ms_queue.specs.declared.calls.gauging.GaugeAt.TheVariants.{Seeking, CheckNext}
-use Rattle.bounded.specs.declared.bounded.Laid as laid
 use Rattle.ms_queue.specs.Queue.{Queue, Answered, machine_of}
 use Rattle.ms_queue.specs.Seeking.{seek_line, IsRead}
 
@@ -47,6 +46,6 @@ module _ {T : Type 0} where
   abbrev pub gauge_account : Limits → Account T (Line T) (Operation T) GaugeAt (Answered Gauge)
   gauge_account k = to_answer (λ at. GaugeFirst) gauge_line (λ at. []) (λ at. HasReadToGauge (capacity_of k) (tag_limit_of k) at) (λ o a. ends (AnswerGauge a.reply.closed a.reply.used))
 
-module _ {T P : Type 0} {g : laid.Ghosts P T (Line T) (Operation T)} where
-  abbrev pub IsGauging : Queue T P g → GaugeOp T → Type 0
+module _ {T : Type 0} where
+  abbrev pub IsGauging : Queue T → GaugeOp T → Type 0
   IsGauging c op = IsUnderWay (machine_of c) (gauge_account c.table.shared.key) c.table.shared.table_id op

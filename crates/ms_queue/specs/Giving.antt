@@ -11,11 +11,9 @@ use Rattle.queue_table.specs.Lines.{next}
 use Rattle.running.specs.Code.{Finding, MatchNext}
 use Rattle.running.specs.declared.access.Outcome.{Outcome}
 use Rattle.running.specs.declared.code.Next.{Next}
-use Rattle.bounded.specs.declared.bounded.Laid as laid
 use Rattle.ms_queue.specs.declared.call_parts.giving.Held.{Held}
 use Rattle.ms_queue.specs.declared.call_parts.giving.Give.{Give}
 use Rattle.ms_queue.specs.declared.call_parts.giving.Give.TheVariants.{LoadNodes, LinkNode, GiveNode as TakeBackNode, LoadCells, LinkCell, GiveCell as TakeBackCell}
-use Rattle.queue_table.specs.declared.operation.Operation.{Operation}
 use Rattle.ms_queue.specs.Queue.{Queue, limit_of, machine_of}
 
 -- they are a cell and a node of a queue of n cells
@@ -46,8 +44,8 @@ module _ {T : Type 0} where
   abbrev pub Gives : Line T → Answer T → Held → List (ℕ × Slot T) → Next Give (Unit {0}) → Type 0
   Gives l a held has to = MatchNext to (λ at. (l ≡ give_line a held at) × (has ≡ held_slot held)) (λ done. (l ≡ ends a) × (has ≡ []))
 
-module _ {T P : Type 0} {g : laid.Ghosts P T (Line T) (Operation T)} where
+module _ {T : Type 0} where
   -- where a step leads that came to r
-  abbrev pub GaveTo : Queue T P g → Answer T → Held → Give → Outcome → List (ℕ × Slot T) → Next Give (Unit {0}) → Type 0
+  abbrev pub GaveTo : Queue T → Answer T → Held → Give → Outcome → List (ℕ × Slot T) → Next Give (Unit {0}) → Type 0
   GaveTo c a held at r has to = Finding (machine_of c).core (give_line a held at) r (held_slot held) has
       (λ found came. Gives (next (limit_of c) (give_line a held at) found came) a held has to)

@@ -1,7 +1,8 @@
--- What the answers of the calls say: the laws of the program.
+-- What the answers of the calls say.
 use Rattle.std.specs.Prelude.{◌≡◌, ℕ, Bool, true, false, List, [], ◌∷◌, Result, Ok, Err}
 use Rattle.std.proofs.Common.{sym, ap, ◌∙◌, subst}
 use Rattle.tagged_index.specs.declared.limit.Limits.{Limits}
+use Rattle.bounded_model.specs.declared.answers.PutRefused.{PutRefused}
 use Rattle.bounded_model.specs.declared.answers.TakeRefused.{TakeRefused}
 use Rattle.bounded_model.specs.declared.answers.TakeRefused.TheVariants.{Empty, Closed, Shut as TakeShut, Spent}
 use Rattle.bounded_model.specs.declared.commands.Command.TheVariants.{Put as PutCall, Take as TakeCall, Close as CloseCall, Shut as ShutCall, Look as LookCall}
@@ -22,16 +23,11 @@ use Rattle.queue_table.specs.declared.operation.Operation.{Operation}
 use Rattle.queue_table.specs.declared.operation.Operation.TheVariants.{Take as TakeFirst, Close as CloseFirst, Shut as ShutFirst, Look as LookFirst}
 use Rattle.queue_table.specs.Lines.{call_of}
 use Rattle.running.specs.Going.{Ended}
-use Rattle.ms_queue.specs.Calls.{is_call, put_of}
+use Rattle.ms_queue.specs.Calls.{is_call}
 use Rattle.ms_queue.specs.Closing.{close_account}
-use Rattle.ms_queue.specs.declared.calls.closing.CloseAt.{CloseAt}
-use Rattle.ms_queue.specs.declared.calls.looking.LookAt.{LookAt}
-use Rattle.ms_queue.specs.declared.calls.putting.PutAt.{PutAt}
-use Rattle.ms_queue.specs.declared.calls.shutting.ShutAt.{ShutAt}
-use Rattle.ms_queue.specs.declared.calls.taking.TakeAt.{TakeAt}
 use Rattle.ms_queue.specs.Limits.{machine_at}
 use Rattle.ms_queue.specs.Looking.{look_account}
-use Rattle.ms_queue.specs.Putting.{Answer as PutAnswer, put_account, put_value}
+use Rattle.ms_queue.specs.Putting.{Answer as PutAnswer, put_account}
 use Rattle.ms_queue.specs.Queue.{Answered}
 use Rattle.ms_queue.specs.Shutting.{shut_account}
 use Rattle.ms_queue.specs.Taking.{Answer as TakeAnswer, take_account}
@@ -69,7 +65,7 @@ module _ {T : Type 0} (k : Limits) where
     looked : (b : Bool) → Ended (machine_at k) LookFirst v begun (ends (AnswerLook b)) → LookGives (shape_at T k) begun (pass_of v) b
     looked b e = (adds_of e [] e.deeds.made, e.tells)
 
-  -- the laws of the program: an operation that makes a call gives what the call gives
+  -- an operation that makes a call gives what the call gives
   module _ (o : Operation T) (v : View T (Line T)) (begun : PassView T) where
     abbrev EndsAt : Operation T → Line T → Type 0
     EndsAt o l = Ended (machine_at k) o v begun l
@@ -94,33 +90,34 @@ module _ {T : Type 0} (k : Limits) where
         → LookGives (shape_at T k) begun (pass_of v) a.reply × Answers begun (pass_of v) (LookAnswered a.reply)
     look_gives a is e = (looked a.reply (subst (λ (o : Operation T). EndsAt o ((look_account k).answer o a)) is e), e.answered)
 
-  -- and what each operation promises; a put does so of each value that it is a put of
-  abbrev pub put_promises : Operation T → PassView T → PassView T → PutAnswer T → Type 0
-  put_promises o begun now a = (x : T) → is_call (PutCall x) o → PutGives (shape_at T k) begun x now a.reply × Answers begun now (put_answered a.reply)
+  -- and what each operation promises of the call that it makes
+  abbrev pub put_promises : Operation T → PassView T → PassView T → Result ℕ (PutRefused T) → Type 0
+  put_promises o begun now r = (x : T) → is_call (PutCall x) o → PutGives (shape_at T k) begun x now r × Answers begun now (put_answered r)
 
-  abbrev pub take_promises : Operation T → PassView T → PassView T → TakeAnswer T → Type 0
-  take_promises o begun now a = TakeGives (shape_at T k) begun now a.reply × Answers begun now (TakeAnswered a.reply)
+  abbrev pub take_promises : Operation T → PassView T → PassView T → Result (T × ℕ) TakeRefused → Type 0
+  take_promises o begun now r = is_call TakeCall o → TakeGives (shape_at T k) begun now r × Answers begun now (TakeAnswered r)
 
-  abbrev pub close_promises : Operation T → PassView T → PassView T → Answered Bool → Type 0
-  close_promises o begun now a = CloseGives (shape_at T k) begun now a.reply × Answers begun now (CloseAnswered a.reply)
+  abbrev pub close_promises : Operation T → PassView T → PassView T → Bool → Type 0
+  close_promises o begun now r = is_call CloseCall o → CloseGives (shape_at T k) begun now r × Answers begun now (CloseAnswered r)
 
-  abbrev pub shut_promises : Operation T → PassView T → PassView T → Answered Bool → Type 0
-  shut_promises o begun now a = ShutGives (shape_at T k) begun now a.reply × Answers begun now (ShutAnswered a.reply)
+  abbrev pub shut_promises : Operation T → PassView T → PassView T → Bool → Type 0
+  shut_promises o begun now r = is_call ShutCall o → ShutGives (shape_at T k) begun now r × Answers begun now (ShutAnswered r)
 
-  abbrev pub look_promises : Operation T → PassView T → PassView T → Answered Bool → Type 0
-  look_promises o begun now a = LookGives (shape_at T k) begun now a.reply × Answers begun now (LookAnswered a.reply)
+  abbrev pub look_promises : Operation T → PassView T → PassView T → Bool → Type 0
+  look_promises o begun now r = is_call LookCall o → LookGives (shape_at T k) begun now r × Answers begun now (LookAnswered r)
 
-  pub put_keeps : (at : PutAt T) (v : View T (Line T)) (begun : PassView T) (a : PutAnswer T) → Ended (machine_at k) (put_of (put_value at)) v begun ((put_account k).answer (put_of (put_value at)) a) → put_promises (put_of (put_value at)) begun (pass_of v) a
-  put_keeps at v begun a e x is = put_gives (put_of (put_value at)) v begun x a is e
+  module _ (o : Operation T) (v : View T (Line T)) (begun : PassView T) where
+    pub put_given : (a : PutAnswer T) → Ended (machine_at k) o v begun ((put_account k).answer o a) → put_promises o begun (pass_of v) a.reply
+    put_given a e x is = put_gives o v begun x a is e
 
-  pub take_keeps : (at : TakeAt T) (v : View T (Line T)) (begun : PassView T) (a : TakeAnswer T) → Ended (machine_at k) TakeFirst v begun ((take_account k).answer TakeFirst a) → take_promises TakeFirst begun (pass_of v) a
-  take_keeps at v begun a e = (took a.reply e, e.answered)
+    pub take_given : (a : TakeAnswer T) → Ended (machine_at k) o v begun ((take_account k).answer o a) → take_promises o begun (pass_of v) a.reply
+    take_given a e is = take_gives o v begun a is e
 
-  pub close_keeps : (at : CloseAt) (v : View T (Line T)) (begun : PassView T) (a : Answered Bool) → Ended (machine_at k) CloseFirst v begun ((close_account k).answer CloseFirst a) → close_promises CloseFirst begun (pass_of v) a
-  close_keeps at v begun a e = (closed a.reply e, e.answered)
+    pub close_given : (a : Answered Bool) → Ended (machine_at k) o v begun ((close_account k).answer o a) → close_promises o begun (pass_of v) a.reply
+    close_given a e is = close_gives o v begun a is e
 
-  pub shut_keeps : (at : ShutAt) (v : View T (Line T)) (begun : PassView T) (a : Answered Bool) → Ended (machine_at k) ShutFirst v begun ((shut_account k).answer ShutFirst a) → shut_promises ShutFirst begun (pass_of v) a
-  shut_keeps at v begun a e = (shut a.reply e, e.answered)
+    pub shut_given : (a : Answered Bool) → Ended (machine_at k) o v begun ((shut_account k).answer o a) → shut_promises o begun (pass_of v) a.reply
+    shut_given a e is = shut_gives o v begun a is e
 
-  pub look_keeps : (at : LookAt) (v : View T (Line T)) (begun : PassView T) (a : Answered Bool) → Ended (machine_at k) LookFirst v begun ((look_account k).answer LookFirst a) → look_promises LookFirst begun (pass_of v) a
-  look_keeps at v begun a e = (looked a.reply e, e.answered)
+    pub look_given : (a : Answered Bool) → Ended (machine_at k) o v begun ((look_account k).answer o a) → look_promises o begun (pass_of v) a.reply
+    look_given a e is = look_gives o v begun a is e

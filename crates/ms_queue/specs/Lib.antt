@@ -1,6 +1,7 @@
 pub mod Calls
 pub mod Closing
 pub mod Counting
+pub mod Every
 pub mod Gauging
 pub mod Giving
 pub mod KeepsAnswers

@@ -4,8 +4,7 @@ use Rattle.tagged_index.specs.Fields.{fields_of, index_of}
 use Rattle.tagged_index.specs.Limits.{capacity_of}
 use Rattle.tagged_index.specs.declared.limit.Limits.{Limits}
 use Rattle.running.specs.Code.{Account, to_answer}
-use Rattle.bounded.specs.Bounded.{Makes}
-use Rattle.bounded.specs.declared.bounded.Laid as laid
+use Rattle.running.specs.Kept.{Makes}
 use Rattle.bounded_model.specs.declared.commands.Command.TheVariants.{Look as LookCall}
 use Rattle.running.specs.Steps.{Stands, Ran}
 use Rattle.queue_table.specs.declared.operation.Operation.{Operation}
@@ -42,14 +41,14 @@ module _ {T : Type 0} where
   abbrev pub look_account : Limits → Account T (Line T) (Operation T) LookAt (Answered Bool)
   look_account k = to_answer (λ at. LookFirst) look_line (λ at. []) (λ at. HasReadToLook (capacity_of k) at) (λ o a. ends (AnswerLook a.reply))
 
-module _ {T P : Type 0} {g : laid.Ghosts P T (Line T) (Operation T)} where
+module _ {T : Type 0} where
   -- a whole call is at this
-  abbrev pub LookStands : Queue T P g → Pass T (Line T) → LookAt → Type 0
+  abbrev pub LookStands : Queue T → Pass T (Line T) → LookAt → Type 0
   LookStands c p at = Stands (machine_of c) (look_account c.table.shared.key) c.table.shared.table_id p at
 
   -- what some steps of it give
-  abbrev pub LookRan : Queue T P g → Operation T → Pass T (Line T) → Pass T (Line T) → Next LookAt (Answered Bool) → Type 0
+  abbrev pub LookRan : Queue T → Operation T → Pass T (Line T) → Pass T (Line T) → Next LookAt (Answered Bool) → Type 0
   LookRan c o p q r = Ran (machine_of c) (look_account c.table.shared.key) c.table.shared.table_id o p q r
 
-  abbrev pub IsLooking : Queue T P g → LookOp T → Type 0
+  abbrev pub IsLooking : Queue T → LookOp T → Type 0
   IsLooking c op = Makes (machine_of c) (look_account c.table.shared.key) c.table.shared.table_id (is_call LookCall) op

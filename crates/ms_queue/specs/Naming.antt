@@ -11,14 +11,8 @@ use Rattle.step_names.specs.declared.location.Location.{Location}
 use Rattle.step_names.specs.declared.location.Location.TheVariants as location
 use Rattle.step_names.specs.declared.step_name.StepName.{StepName}
 use Rattle.step_names.specs.Names.{IsNamed, Naming}
-use Rattle.tagged_index.specs.declared.limit.Limits.{Limits}
-use Rattle.bounded.specs.Naming as bounded
-use Rattle.ms_queue.specs.Closing.{close_account}
-use Rattle.ms_queue.specs.Looking.{look_account}
-use Rattle.ms_queue.specs.Putting.{put_account}
-use Rattle.ms_queue.specs.Shutting.{shut_account}
-use Rattle.ms_queue.specs.declared.life.queue.AnyOp.{AnyOp}
-use Rattle.ms_queue.specs.Taking.{take_account}
+use Rattle.ms_queue.specs.Every.{every_line}
+use Rattle.ms_queue.specs.Stepwise.{AnyOp}
 
 abbrev pub word_at : Place → Location
 word_at Cells = location.Cells
@@ -42,4 +36,4 @@ module _ {T : Type 0} where
 
   -- the next step of an operation has this name
   abbrev pub IsStep : AnyOp T → StepName → Type 0
-  IsStep op name = (key : Limits) → bounded.IsStep IsNextStep (put_account key).line (take_account key).line (close_account key).line (shut_account key).line (look_account key).line op.call name
+  IsStep op name = IsNextStep (every_line op.at) name

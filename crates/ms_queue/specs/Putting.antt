@@ -20,8 +20,7 @@ use Rattle.running.specs.declared.code.Next.{Next}
 use Rattle.running.specs.declared.passes.Pass.{Pass}
 use Rattle.ms_queue.specs.declared.call_parts.giving.Held.{Held}
 use Rattle.running.specs.declared.op.Op.{Op}
-use Rattle.bounded.specs.Bounded.{Makes}
-use Rattle.bounded.specs.declared.bounded.Laid as laid
+use Rattle.running.specs.Kept.{Makes}
 use Rattle.bounded_model.specs.declared.commands.Command.TheVariants.{Put as PutCall}
 use Rattle.ms_queue.specs.declared.calls.putting.PutAt.{PutAt}
 use Rattle.ms_queue.specs.declared.calls.putting.PutAt.TheVariants.{LoadCells as AtCells, LoadCellLink as AtCellLink, TakeCell as AtTakeCell, Refusing, LoadNodes as AtNodes, LoadNodeLink as AtNodeLink, TakeNode as AtTakeNode, StoreCell as AtStoreCell, LoadNext as AtNext, PrepareNext as AtPrepare, Seeking, LinkNext as AtLink, SwingTail, GiveBack}
@@ -119,15 +118,15 @@ module _ {T : Type 0} where
   abbrev pub put_account : Limits → Account T (Line T) (Operation T) (PutAt T) (Answer T)
   put_account k = to_answer (λ at. put_of (put_value at)) put_line put_slots (λ at. HasReadToPut (capacity_of k) (tag_limit_of k) at) (λ o a. ends (AnswerPut a.reply))
 
-module _ {T P : Type 0} {g : laid.Ghosts P T (Line T) (Operation T)} where
+module _ {T : Type 0} where
   -- a put of x, by its operation: the put of the value that the operation has is a put of x too
-  abbrev pub IsPutting : Queue T P g → T → PutOp T → Type 0
+  abbrev pub IsPutting : Queue T → T → PutOp T → Type 0
   IsPutting c x op = Makes (machine_of c) (put_account c.table.shared.key) c.table.shared.table_id (is_call (PutCall x)) op
 
   -- a whole call of this operation is at this
-  abbrev pub PutStands : Queue T P g → Operation T → Pass T (Line T) → PutAt T → Type 0
+  abbrev pub PutStands : Queue T → Operation T → Pass T (Line T) → PutAt T → Type 0
   PutStands c o p at = (o ≡ put_of (put_value at)) × Stands (machine_of c) (put_account c.table.shared.key) c.table.shared.table_id p at
 
   -- what some steps of it give
-  abbrev pub PutRan : Queue T P g → Operation T → Pass T (Line T) → Pass T (Line T) → Next (PutAt T) (Answer T) → Type 0
+  abbrev pub PutRan : Queue T → Operation T → Pass T (Line T) → Pass T (Line T) → Next (PutAt T) (Answer T) → Type 0
   PutRan c o p q r = Ran (machine_of c) (put_account c.table.shared.key) c.table.shared.table_id o p q r

@@ -10,12 +10,10 @@ use Rattle.queue_table.specs.Lines.{HasRoom, next}
 use Rattle.running.specs.Code.{Came, Finding, MatchNext}
 use Rattle.running.specs.declared.access.Outcome.{Outcome}
 use Rattle.running.specs.declared.code.Next.{Next}
-use Rattle.bounded.specs.declared.bounded.Laid as laid
 use Rattle.ms_queue.specs.declared.call_parts.seeking.Seek.{Seek}
 use Rattle.ms_queue.specs.declared.call_parts.seeking.Seek.TheVariants.{LoadTail as SeekTail, LoadNext as SeekNext, CheckTail as SeekCheck, SwingTail as SeekSwing}
 use Rattle.ms_queue.specs.declared.call_parts.seeking.End.{End}
 use Rattle.ms_queue.specs.declared.call_parts.seeking.End.TheVariants.{Closed as EndClosed, Open}
-use Rattle.queue_table.specs.declared.operation.Operation.{Operation}
 use Rattle.ms_queue.specs.Queue.{Queue, room_of, limit_of, machine_of}
 
 -- what was read names nodes, and the tail that is to be moved has room for its tag to rise
@@ -42,14 +40,14 @@ module _ {T : Type 0} where
   HasReadEnd n limit s (EndClosed w) = Unit {0}
   HasReadEnd n limit s (Open w x) = (index_of w < n + 1) × HasRoom limit (back_null s (fields_of w) (fields_of x))
 
-module _ {T P : Type 0} {g : laid.Ghosts P T (Line T) (Operation T)} where
+module _ {T : Type 0} where
   -- what a step leads to, with these slots in hand before it and after it
-  abbrev pub Seeks : Queue T P g → Line T → Seeking T → List (ℕ × Slot T) → List (ℕ × Slot T) → Next Seek End → Type 0
+  abbrev pub Seeks : Queue T → Line T → Seeking T → List (ℕ × Slot T) → List (ℕ × Slot T) → Next Seek End → Type 0
   Seeks c l s had has to = MatchNext to
       (λ at. (l ≡ seek_line s at) × (has ≡ had) × IsRead (room_of c) (limit_of c) at)
       (λ end. (l ≡ end_line s end) × (has ≡ had) × HasReadEnd (room_of c) (limit_of c) s end)
 
   -- where a step leads that came to r
-  abbrev pub SoughtTo : Queue T P g → Seeking T → Seek → Outcome → List (ℕ × Slot T) → List (ℕ × Slot T) → Next Seek End → Type 0
+  abbrev pub SoughtTo : Queue T → Seeking T → Seek → Outcome → List (ℕ × Slot T) → List (ℕ × Slot T) → Next Seek End → Type 0
   SoughtTo c s at r had has to = Came (machine_of c).core (seek_line s at) r had has
       → Finding (machine_of c).core (seek_line s at) r had has (λ found came. Seeks c (next (limit_of c) (seek_line s at) found came) s had has to)

@@ -3,8 +3,7 @@ use Rattle.std.specs.Prelude.{Bool, []}
 use Rattle.tagged_index.specs.Fields.{fields_of}
 use Rattle.tagged_index.specs.declared.limit.Limits.{Limits}
 use Rattle.running.specs.Code.{Account, to_answer}
-use Rattle.bounded.specs.Bounded.{Makes}
-use Rattle.bounded.specs.declared.bounded.Laid as laid
+use Rattle.running.specs.Kept.{Makes}
 use Rattle.bounded_model.specs.declared.commands.Command.TheVariants.{Shut as ShutCall}
 use Rattle.queue_table.specs.declared.operation.Operation.{Operation}
 use Rattle.queue_machine.specs.declared.lines.Answer.TheVariants.{Shut as AnswerShut}
@@ -31,6 +30,6 @@ module _ {T : Type 0} where
   abbrev pub shut_account : Limits → Account T (Line T) (Operation T) ShutAt (Answered Bool)
   shut_account k = to_answer (λ at. ShutFirst) shut_line (λ at. []) (λ at. Unit {0}) (λ o a. ends (AnswerShut a.reply))
 
-module _ {T P : Type 0} {g : laid.Ghosts P T (Line T) (Operation T)} where
-  abbrev pub IsShutting : Queue T P g → ShutOp T → Type 0
+module _ {T : Type 0} where
+  abbrev pub IsShutting : Queue T → ShutOp T → Type 0
   IsShutting c op = Makes (machine_of c) (shut_account c.table.shared.key) c.table.shared.table_id (is_call ShutCall) op

@@ -17,23 +17,23 @@
 
 mod call_parts;
 mod calls;
+mod container;
 mod fast_paths;
 mod life;
 mod naming;
-mod parts;
 mod places;
-mod program;
 mod rule;
+mod stepwise;
 
 pub use calls::closing::CloseOp;
-pub use calls::counting::{LenOp, begin_len, len, len_at_once};
-pub use calls::gauging::{Gauge, GaugeOp, begin_gauge, read_gauge};
+pub use calls::counting::LenOp;
+pub use calls::every::{AnyOp, QueueAt};
+pub use calls::gauging::{Gauge, GaugeOp};
 pub use calls::looking::LookOp;
 pub use calls::putting::PutOp;
 pub use calls::shutting::ShutOp;
 pub use calls::taking::TakeOp;
-pub use life::ending::end;
-pub use life::queue::{Answered, AnyOp, Note, Pass, Queue, Root};
+pub use life::queue::{Answered, Note, Pass, Queue, Root};
 pub use life::rest::Rest;
 pub use places::queue_places;
 pub use rule::Queued;

@@ -13,17 +13,13 @@ ghost use Rattle.ms_queue.specs.Taking.{take_line};
 use crate::call_parts::giving::{Give, Held};
 use crate::call_parts::seeking::Seek;
 use crate::calls::closing::CloseAt;
+use crate::calls::every::{AnyOp, QueueAt};
 use crate::calls::looking::LookAt;
 use crate::calls::putting::PutAt;
 use crate::calls::shutting::ShutAt;
 use crate::calls::taking::TakeAt;
-use crate::life::queue::{AnyOp, Queue};
-use crate::rule::Queued;
-use bounded::NamesSteps;
-use bounded_model::Operation as AnyCall;
-use queue_machine::Line;
-use queue_table::Operation;
-use step_names::{Location, StepName};
+use crate::life::queue::Queue;
+use step_names::{Location, Named, StepName};
 
 // The next step of the way to the end of the chain.
 fn seek_step<T>(at: &Seek) -> StepName
@@ -124,18 +120,18 @@ fn look_name<T>(at: &LookAt) -> StepName
     }
 }
 
-impl<T: Drop + Send> NamesSteps<Queue<T>, T, Line<T>, Operation<T>, Queued, 2> for Queued {
+impl<T: Drop + Send> Named<T> for Queue<T> {
     ghost use Rattle.ms_queue.specs.Naming.{IsStep};
 
     ghost is_step = { IsStep };
 
     fn step_name(op: &AnyOp<T>) -> StepName {
-        match &op.call {
-            AnyCall::Put(op) => put_name::<T>(&op.at),
-            AnyCall::Take(op) => take_name::<T>(&op.at),
-            AnyCall::Close(op) => close_name::<T>(&op.at),
-            AnyCall::Shut(op) => shut_name::<T>(&op.at),
-            AnyCall::Look(op) => look_name::<T>(&op.at),
+        match &op.at {
+            QueueAt::Put(at) => put_name::<T>(at),
+            QueueAt::Take(at) => take_name::<T>(at),
+            QueueAt::Close(at) => close_name::<T>(at),
+            QueueAt::Shut(at) => shut_name::<T>(at),
+            QueueAt::Look(at) => look_name::<T>(at),
         }
     }
 }

@@ -1,5 +1,4 @@
 //! The queue's machine.
-use bounded::Laid;
 use queue_machine::Line;
 use queue_table::Operation;
 use queue_table::layout::{CELL_LIST, CELLS, NODES, cell_link, node_link};
@@ -47,16 +46,4 @@ impl<T> ListMachine<T, Line<T>, Operation<T>, 2> for Queued {
     }
 
     ghost laws = { λ limits. list_laws T (capacity_of limits) (tag_limit_of limits) };
-}
-
-impl<T> Laid<T, Line<T>, Operation<T>> for Queued {
-    ghost use Rattle.bounded_model.specs.declared.container.TheConstants.{MAX_PASSES};
-    ghost use Rattle.tagged_index.specs.Limits.{capacity_of};
-    ghost use Rattle.queue_table.specs.Layout.{words_for};
-
-    ghost words_for = { λ limits. words_for (capacity_of limits) };
-
-    ghost slots_for = { λ limits. capacity_of limits };
-
-    ghost passes_for = { λ limits. MAX_PASSES };
 }

@@ -16,7 +16,6 @@ use Rattle.ring_queue.specs.declared.calls.closing.Mark.TheVariants.{Closed, Shu
 use Rattle.ring_queue.specs.declared.calls.closing.MarkAt.{MarkAt}
 use Rattle.ring_queue.specs.declared.calls.closing.MarkAt.TheVariants.{Walking, Setting}
 use Rattle.ring_queue.specs.Ring.{Answered}
-use Rattle.bounded.specs.declared.bounded.Laid as laid
 use Rattle.ring_queue.specs.Ring.{RingQueue}
 use Rattle.ring_queue.specs.declared.call_parts.walking.Found.{Found}
 use Rattle.ring_queue.specs.declared.call_parts.walking.WalkAt.{WalkAt}
@@ -39,7 +38,7 @@ setting_busy : (T : Type 0) (mark : Mark) (end : Found) → is_idle (mark_line {
 setting_busy T Closed end = refl
 setting_busy T Shut end = refl
 
-module _ {T P : Type 0} {g : laid.Ghosts P T (SeatLine T) (Operation T)} (c : RingQueue T P g) {s : MarkAt} {mark : Mark} {at : WalkAt} (is : s ≡ Walking mark at) (r : Outcome) (has : List (ℕ × Slot T)) (came : Came (machine_of c).core (At (mark_line s)) r [] has) where
+module _ {T : Type 0} (c : RingQueue T) {s : MarkAt} {mark : Mark} {at : WalkAt} (is : s ≡ Walking mark at) (r : Outcome) (has : List (ℕ × Slot T)) (came : Came (machine_of c).core (At (mark_line s)) r [] has) where
   abbrev pub Marking : Next MarkAt (Answered Bool) → Type 0
   Marking next = LeadsTo c (mark_account c.table.shared.key) s r has has next
 
@@ -66,7 +65,7 @@ module _ {T P : Type 0} {g : laid.Ghosts P T (SeatLine T) (Operation T)} (c : Ri
     mark_meets e = mark_ends false e (On (Setting mark end)) (λ l to hand known. record { same = sym named; is = to; busy = setting_busy T mark end; hand = hand; knows = (known.slot, known.short, known.room) })
 
 -- Where the compare-and-swap leads it that was to set the mark
-module _ {T P : Type 0} {g : laid.Ghosts P T (SeatLine T) (Operation T)} (c : RingQueue T P g) (end : Found) (r : Outcome) (has : List (ℕ × Slot T)) where
+module _ {T : Type 0} (c : RingQueue T) (end : Found) (r : Outcome) (has : List (ℕ × Slot T)) where
   abbrev SetTo : Mark → Next MarkAt (Answered Bool) → Type 0
   SetTo mark next = LeadsTo c (mark_account c.table.shared.key) (Setting mark end) r has has next
 

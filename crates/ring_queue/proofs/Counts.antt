@@ -12,9 +12,6 @@ use Rattle.ring_table.specs.declared.line.SeatLine.TheVariants.{At}
 use Rattle.ring_queue.specs.declared.calls.counting.LenAt.{LenAt}
 use Rattle.ring_queue.specs.declared.calls.counting.LenAt.TheVariants.{ToFront, ToBack, CheckFront}
 use Rattle.ring_queue.specs.Ring.{Answered}
-use Rattle.bounded.specs.declared.bounded.Laid as laid
-use Rattle.ring_table.specs.declared.operation.Operation.{Operation}
-use Rattle.ring_table.specs.declared.line.SeatLine.{SeatLine}
 use Rattle.ring_queue.specs.Ring.{RingQueue}
 use Rattle.ring_queue.specs.declared.call_parts.walking.Found.{Found}
 use Rattle.ring_queue.specs.declared.call_parts.walking.WalkAt.{WalkAt}
@@ -24,7 +21,7 @@ use Rattle.ring_queue.specs.Ring.{room_of, machine_of}
 use Rattle.ring_queue.specs.Walking.{to_back, to_front, WalkedTo}
 use Rattle.ring_queue.proofs.Walks.{busy, LeadsTo, walk_goes, walk_ends}
 
-module _ {T P : Type 0} {g : laid.Ghosts P T (SeatLine T) (Operation T)} (c : RingQueue T P g) (s : LenAt) (at : WalkAt) (r : Outcome) (has : List (ℕ × Slot T)) (came : Came (machine_of c).core (At (len_line s)) r [] has) where
+module _ {T : Type 0} (c : RingQueue T) (s : LenAt) (at : WalkAt) (r : Outcome) (has : List (ℕ × Slot T)) (came : Came (machine_of c).core (At (len_line s)) r [] has) where
   abbrev pub Counting : Next LenAt (Answered ℕ) → Type 0
   Counting next = LeadsTo c (len_account c.table.shared.key) s r has has next
 

@@ -5,15 +5,13 @@ use denote.Param.SendFields.{as_row_send, declared_send, variants_send}
 use denote.Struct.Field.{row_field}
 use Rattle.std.proofs.Crossing.{send as heap_send}
 use Rattle.atomic_table.proofs.shared.Seat.TheSendSync.{the_send as seat_send}
-use Rattle.bounded_model.specs.contracts.commands.Operation as call
 use Rattle.running.proofs.Crossing.{row_send, lease_send}
 use Rattle.running.specs.contracts.op.Op as op
 use Rattle.ring_table.specs.contracts.line.SeatLine as line
 use Rattle.ring_table.specs.contracts.operation.Operation as operation
 use Rattle.ring_queue.specs.contracts.call_parts.walk.Walk as walk
 use Rattle.ring_queue.specs.contracts.call_parts.walking.Found as found
-use Rattle.ring_queue.specs.contracts.call_parts.walking.WalkAt as walk_at
-use Rattle.ring_queue.specs.contracts.life.ring.AnyOp as own_op
+use Rattle.ring_queue.specs.contracts.calls.every.RingAt as every
 use Rattle.ring_queue.specs.contracts.calls.closing.MarkAt as mark
 use Rattle.ring_queue.specs.contracts.calls.looking.LookAt as look
 use Rattle.ring_queue.specs.contracts.calls.putting.PutAt as put
@@ -49,21 +47,9 @@ at_send T S s at = declared_send (op.the_type T (line.the_row T) (operation.the_
 abbrev of : RattleType → RattleType → RattleType
 of T S = op.the_row T (line.the_row T) (operation.the_row T) S
 
-calls_send : (T : RattleType) → IsSend T → IsSend (call.the_row (of T (put.the_row T)) (of T (take.the_row T)) (of T mark.the_row) (of T mark.the_row) (of T look.the_row))
-calls_send T s = variants_send (call.enum (of T (put.the_row T)) (of T (take.the_row T)) (of T mark.the_row) (of T mark.the_row) (of T look.the_row)) (
-  (at_send T (put.the_row T) s (put_at_send T s), tt),
-  (
-    (at_send T (take.the_row T) s (take_at_send T s), tt),
-    (
-      (at_send T mark.the_row s mark_at_send, tt),
-      (
-        (at_send T mark.the_row s mark_at_send, tt),
-        ((at_send T look.the_row s look_at_send, tt), tt),
-      ),
-    ),
-  ),
-)
+every_send : (T : RattleType) → IsSend T → IsSend (every.the_row T)
+every_send T s = variants_send (every.enum T) ((put_at_send T s, tt), ((take_at_send T s, tt), ((as_row_send (row_field mark.the_row) mark_at_send, tt), ((as_row_send (row_field look.the_row) look_at_send, tt), tt))))
 
 -- an operation, whichever call it makes
-pub op_send : (T : RattleType) → IsSend T → IsSend (own_op.the_row T)
-op_send T s = declared_send (own_op.the_type T) (as_row_send (row_field (call.the_row (of T (put.the_row T)) (of T (take.the_row T)) (of T mark.the_row) (of T mark.the_row) (of T look.the_row))) (calls_send T s), tt)
+pub op_send : (T : RattleType) → IsSend T → IsSend (of T (every.the_row T))
+op_send T s = at_send T (every.the_row T) s (every_send T s)

@@ -8,7 +8,6 @@ use Rattle.running.specs.declared.code.Next.{Next}
 use Rattle.running.proofs.Leading.{ran_on}
 use Rattle.ring_queue.specs.declared.calls.looking.LookAt.{LookAt}
 use Rattle.ring_queue.specs.Ring.{Answered}
-use Rattle.bounded.specs.declared.bounded.Laid as laid
 use Rattle.ring_queue.specs.Ring.{RingQueue}
 use Rattle.ring_queue.specs.declared.calls.putting.PutAt.{PutAt}
 use Rattle.ring_queue.specs.declared.calls.taking.TakeAt.{TakeAt}
@@ -17,7 +16,7 @@ use Rattle.ring_queue.specs.Looking.{LookRan, look_account}
 use Rattle.ring_queue.specs.Putting.{Answer as PutAnswer, PutRan, put_account}
 use Rattle.ring_queue.specs.Taking.{Answer as TakeAnswer, TakeRan, take_account}
 
-module _ {T P : Type 0} {g : laid.Ghosts P T (SeatLine T) (Operation T)} (c : RingQueue T P g) (o : Operation T) (p q t : Pass T (SeatLine T)) where
+module _ {T : Type 0} (c : RingQueue T) (o : Operation T) (p q t : Pass T (SeatLine T)) where
   pub put_after : begun_of (machine_of c) q ≡ begun_of (machine_of c) p → (r : Next (PutAt T) (PutAnswer T)) → PutRan c o q t r → PutRan c o p t r
   put_after begun r ran = ran_on (machine_of c) (put_account c.table.shared.key) c.table.shared.table_id o p q t begun r ran
 

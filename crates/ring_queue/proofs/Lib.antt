@@ -10,3 +10,4 @@ pub mod Gauges
 pub mod Takes
 pub mod Puts
 pub mod FastPath
+pub mod Every

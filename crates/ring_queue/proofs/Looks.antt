@@ -9,9 +9,6 @@ use Rattle.running.specs.declared.code.Next.{Next}
 use Rattle.running.specs.declared.code.Next.TheVariants.{On, Done}
 use Rattle.ring_queue.specs.declared.calls.looking.LookAt.{LookAt}
 use Rattle.ring_queue.specs.Ring.{Answered}
-use Rattle.bounded.specs.declared.bounded.Laid as laid
-use Rattle.ring_table.specs.declared.operation.Operation.{Operation}
-use Rattle.ring_table.specs.declared.line.SeatLine.{SeatLine}
 use Rattle.ring_queue.specs.Ring.{RingQueue}
 use Rattle.ring_queue.specs.declared.call_parts.walking.Found.{Found}
 use Rattle.ring_queue.specs.declared.call_parts.walking.WalkAt.{WalkAt}
@@ -20,7 +17,7 @@ use Rattle.ring_queue.specs.Ring.{machine_of}
 use Rattle.ring_queue.specs.Walking.{to_front, WalkedTo}
 use Rattle.ring_queue.proofs.Walks.{busy, LeadsTo, walk_goes, walk_ends}
 
-module _ {T P : Type 0} {g : laid.Ghosts P T (SeatLine T) (Operation T)} (c : RingQueue T P g) (s : LookAt) (r : Outcome) (has : List (ℕ × Slot T)) (came : Came (machine_of c).core (look_line s) r [] has) where
+module _ {T : Type 0} (c : RingQueue T) (s : LookAt) (r : Outcome) (has : List (ℕ × Slot T)) (came : Came (machine_of c).core (look_line s) r [] has) where
   abbrev pub Looking : Next LookAt (Answered Bool) → Type 0
   Looking next = LeadsTo c (look_account c.table.shared.key) s r has has next
 

@@ -20,9 +20,6 @@ use Rattle.running.specs.declared.code.Next.TheVariants.{On, Done}
 use Rattle.ring_table.specs.declared.line.SeatLine.TheVariants.{At}
 use Rattle.ring_queue.specs.declared.calls.putting.PutAt.{PutAt}
 use Rattle.ring_queue.specs.declared.calls.putting.PutAt.TheVariants.{Walking, Exchange, Stow}
-use Rattle.bounded.specs.declared.bounded.Laid as laid
-use Rattle.ring_table.specs.declared.operation.Operation.{Operation}
-use Rattle.ring_table.specs.declared.line.SeatLine.{SeatLine}
 use Rattle.ring_queue.specs.Ring.{RingQueue}
 use Rattle.ring_queue.specs.declared.call_parts.walking.Found.{Found}
 use Rattle.ring_queue.specs.declared.call_parts.walking.WalkAt.{WalkAt}
@@ -73,7 +70,7 @@ module _ {T : Type 0} where
   unfolding value_or
   same_value zs us vs i j x y e f = sym (ap (value_or x) e) ∙ ap (value_or x) f
 
-module _ {T P : Type 0} {g : laid.Ghosts P T (SeatLine T) (Operation T)} (c : RingQueue T P g) {s : PutAt T} {at : WalkAt} (shown : Snapshot T) (is : s ≡ Walking shown at) (r : Outcome) (has : List (ℕ × Slot T)) (came : Came (machine_of c).core (At (put_line s)) r (put_slots s) has) where
+module _ {T : Type 0} (c : RingQueue T) {s : PutAt T} {at : WalkAt} (shown : Snapshot T) (is : s ≡ Walking shown at) (r : Outcome) (has : List (ℕ × Slot T)) (came : Came (machine_of c).core (At (put_line s)) r (put_slots s) has) where
   abbrev pub Putting : List (ℕ × Slot T) → Next (PutAt T) (Answer T) → Type 0
   Putting has' next = LeadsTo c (put_account c.table.shared.key) s r has has' next
 

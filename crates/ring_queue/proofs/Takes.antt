@@ -19,9 +19,6 @@ use Rattle.running.specs.declared.access.Outcome.{Outcome}
 use Rattle.running.specs.declared.code.Next.{Next}
 use Rattle.running.specs.declared.code.Next.TheVariants.{On, Done}
 use Rattle.ring_table.specs.declared.line.SeatLine.TheVariants.{At}
-use Rattle.bounded.specs.declared.bounded.Laid as laid
-use Rattle.ring_table.specs.declared.operation.Operation.{Operation}
-use Rattle.ring_table.specs.declared.line.SeatLine.{SeatLine}
 use Rattle.ring_queue.specs.Ring.{RingQueue}
 use Rattle.ring_queue.specs.declared.calls.taking.TakeAt.{TakeAt}
 use Rattle.ring_queue.specs.declared.calls.taking.TakeAt.TheVariants.{Walking, Exchange}
@@ -57,7 +54,7 @@ full_at_front false true mark e = refl
 full_at_front false false true e = absurd (none-some TakeClosed (sym e))
 full_at_front false false false e = absurd (none-some TakeEmpty (sym e))
 
-module _ {T P : Type 0} {g : laid.Ghosts P T (SeatLine T) (Operation T)} (c : RingQueue T P g) {s : TakeAt T} {at : WalkAt} (is : s ≡ Walking at) (r : Outcome) (has : List (ℕ × Slot T)) (came : Came (machine_of c).core (At (take_line (room_of c) s)) r (take_slots s) has) where
+module _ {T : Type 0} (c : RingQueue T) {s : TakeAt T} {at : WalkAt} (is : s ≡ Walking at) (r : Outcome) (has : List (ℕ × Slot T)) (came : Came (machine_of c).core (At (take_line (room_of c) s)) r (take_slots s) has) where
   abbrev pub Taking : Next (TakeAt T) (Answer T) → Type 0
   Taking next = LeadsTo c (take_account c.table.shared.key) s r has has next
 

@@ -12,7 +12,6 @@ use Rattle.ring_table.specs.Seats.{names}
 use Rattle.ring_table.specs.declared.line.SeatLine.{SeatLine}
 use Rattle.ring_table.specs.declared.line.SeatLine.TheVariants.{At}
 use Rattle.ring_table.specs.declared.operation.Operation.{Operation}
-use Rattle.bounded.specs.declared.bounded.Laid as laid
 use Rattle.ring_queue.specs.Ring.{RingQueue}
 use Rattle.ring_queue.specs.declared.call_parts.walking.Found.{Found}
 use Rattle.ring_queue.specs.declared.call_parts.walking.WalkAt.{WalkAt}
@@ -38,7 +37,7 @@ module _ {T L O : Type 0} (c : Core T L O) (l : L) (r : Outcome) (had has : List
   anyway (stores at x) came shown = shown came.0
   anyway (swaps at old new side) came shown = shown came.0 came.1 came.2
 
-module _ {T P S A : Type 0} {g : laid.Ghosts P T (SeatLine T) (Operation T)} (c : RingQueue T P g) (a : Account T (SeatLine T) (Operation T) S A) (s : S) where
+module _ {T S A : Type 0} (c : RingQueue T) (a : Account T (SeatLine T) (Operation T) S A) (s : S) where
   abbrev core : Core T (SeatLine T) (Operation T)
   core = (machine_of c).core
 

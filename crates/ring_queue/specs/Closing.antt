@@ -5,6 +5,8 @@ use Rattle.tagged_index.specs.Limits.{capacity_of}
 use Rattle.tagged_index.specs.declared.limit.Limits.{Limits}
 use Rattle.bounded_model.specs.Laws.{CloseGives, ShutGives}
 use Rattle.bounded_model.specs.Machine.{Shape}
+use Rattle.bounded_model.specs.declared.commands.Reply.{Reply}
+use Rattle.bounded_model.specs.declared.commands.Reply.TheVariants as reply
 use Rattle.bounded_model.specs.declared.views.PassView.{PassView}
 use Rattle.ring_machine.specs.declared.lines.Answer.{Answer}
 use Rattle.ring_machine.specs.declared.lines.Answer.TheVariants.{Close as AnswerClose, Shut as AnswerShut}
@@ -14,7 +16,7 @@ use Rattle.ring_machine.specs.declared.lines.Line.{Line}
 use Rattle.ring_machine.specs.declared.lines.Line.TheVariants.{MarkBack, ShutFront}
 use Rattle.ring_machine.specs.Machine.{ends}
 use Rattle.running.specs.Code.{Account, to_answer}
-use Rattle.bounded.specs.Bounded.{Makes}
+use Rattle.running.specs.Kept.{Makes}
 use Rattle.running.specs.declared.op.Op.{Op}
 use Rattle.ring_table.specs.declared.line.SeatLine.{SeatLine}
 use Rattle.ring_table.specs.declared.line.SeatLine.TheVariants.{At}
@@ -24,7 +26,6 @@ use Rattle.bounded_model.specs.declared.commands.Command.TheVariants.{Close as C
 use Rattle.bounded_model.specs.declared.commands.Command.TheVariants.{Shut as ShutCall}
 use Rattle.ring_queue.specs.Calls.{is_call}
 use Rattle.ring_queue.specs.Ring.{Answered}
-use Rattle.bounded.specs.declared.bounded.Laid as laid
 use Rattle.ring_queue.specs.Ring.{RingQueue}
 use Rattle.ring_queue.specs.declared.calls.closing.Mark.{Mark}
 use Rattle.ring_queue.specs.declared.calls.closing.Mark.TheVariants.{Closed, Shut}
@@ -64,6 +65,11 @@ module _ {T : Type 0} where
   aim_of Closed = to_back ToClose
   aim_of Shut = to_front ToShut
 
+  -- the reply of the call that sets it
+  abbrev pub mark_reply : Mark → Bool → Reply T
+  mark_reply Closed done = reply.Close done
+  mark_reply Shut done = reply.Shut done
+
   -- what a shut answers, or else a close
   abbrev pub answer_of : Operation T → Bool → Answer T
   answer_of ShutFirst done = AnswerShut done
@@ -84,9 +90,9 @@ module _ {T : Type 0} where
   abbrev pub mark_account : Limits → Account T (SeatLine T) (Operation T) MarkAt (Answered Bool)
   mark_account k = to_answer (λ s. operation_of (mark_of_step s)) (λ s. At (mark_line s)) (λ s. []) (λ s. HasReadToMark (capacity_of k) s) (λ o a. At (ends a.kept.index (answer_of o a.reply)))
 
-module _ {T P : Type 0} {g : laid.Ghosts P T (SeatLine T) (Operation T)} where
-  abbrev pub IsClosing : RingQueue T P g → CloseOp T → Type 0
+module _ {T : Type 0} where
+  abbrev pub IsClosing : RingQueue T → CloseOp T → Type 0
   IsClosing c op = Makes (machine_of c) (mark_account c.table.shared.key) c.table.shared.table_id (is_call CloseCall) op
 
-  abbrev pub IsShutting : RingQueue T P g → ShutOp T → Type 0
+  abbrev pub IsShutting : RingQueue T → ShutOp T → Type 0
   IsShutting c op = Makes (machine_of c) (mark_account c.table.shared.key) c.table.shared.table_id (is_call ShutCall) op

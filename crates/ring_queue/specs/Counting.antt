@@ -19,7 +19,6 @@ use Rattle.ring_table.specs.declared.operation.Operation.TheVariants.{Len as Len
 use Rattle.ring_queue.specs.declared.calls.counting.LenAt.{LenAt}
 use Rattle.ring_queue.specs.declared.calls.counting.LenAt.TheVariants.{ToFront, ToBack, CheckFront as CheckAgain}
 use Rattle.ring_queue.specs.Ring.{Answered}
-use Rattle.bounded.specs.declared.bounded.Laid as laid
 use Rattle.ring_queue.specs.Ring.{RingQueue}
 use Rattle.ring_queue.specs.Ring.{machine_of}
 use Rattle.ring_queue.specs.Walking.{to_back, to_front, walk_line, IsRead}
@@ -44,6 +43,6 @@ module _ {T : Type 0} where
   abbrev pub len_account : Limits → Account T (SeatLine T) (Operation T) LenAt (Answered ℕ)
   len_account k = to_answer (λ s. LenFirst) (λ s. At (len_line s)) (λ s. []) (λ s. HasReadToCount (capacity_of k) s) (λ o a. At (ends a.kept.index (AnswerLen a.reply)))
 
-module _ {T P : Type 0} {g : laid.Ghosts P T (SeatLine T) (Operation T)} where
-  abbrev pub IsCounting : RingQueue T P g → LenOp T → Type 0
+module _ {T : Type 0} where
+  abbrev pub IsCounting : RingQueue T → LenOp T → Type 0
   IsCounting c op = IsUnderWay (machine_of c) (len_account c.table.shared.key) c.table.shared.table_id op

@@ -19,7 +19,6 @@ use Rattle.ring_table.specs.declared.operation.Operation.TheVariants.{Gauge as G
 use Rattle.ring_queue.specs.declared.calls.gauging.Gauge.{Gauge}
 use Rattle.ring_queue.specs.declared.calls.gauging.GaugeAt.{GaugeAt}
 use Rattle.ring_queue.specs.Ring.{Answered}
-use Rattle.bounded.specs.declared.bounded.Laid as laid
 use Rattle.ring_queue.specs.Ring.{RingQueue}
 use Rattle.ring_queue.specs.Ring.{machine_of}
 use Rattle.ring_queue.specs.Walking.{to_back, walk_line, IsRead}
@@ -41,6 +40,6 @@ module _ {T : Type 0} where
   abbrev pub gauge_account : Limits → Account T (SeatLine T) (Operation T) GaugeAt (Answered Gauge)
   gauge_account k = to_answer (λ s. GaugeFirst) gauge_line (λ s. []) (λ s. IsRead (capacity_of k) s.at) (λ o a. At (ends a.kept.index (AnswerGauge a.reply.closed a.reply.used)))
 
-module _ {T P : Type 0} {g : laid.Ghosts P T (SeatLine T) (Operation T)} where
-  abbrev pub IsGauging : RingQueue T P g → GaugeOp T → Type 0
+module _ {T : Type 0} where
+  abbrev pub IsGauging : RingQueue T → GaugeOp T → Type 0
   IsGauging c op = IsUnderWay (machine_of c) (gauge_account c.table.shared.key) c.table.shared.table_id op

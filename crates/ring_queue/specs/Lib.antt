@@ -17,3 +17,5 @@ pub mod Stepwise
 pub mod Taking
 pub mod Trying
 pub mod Walking
+pub mod Every
+pub mod KeepsPasses

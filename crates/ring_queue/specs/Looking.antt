@@ -6,7 +6,7 @@ use Rattle.ring_machine.specs.declared.lines.Answer.TheVariants.{Look as AnswerL
 use Rattle.ring_machine.specs.declared.lines.Front.TheVariants.{ToLook}
 use Rattle.ring_machine.specs.Machine.{ends}
 use Rattle.running.specs.Code.{Account, to_answer}
-use Rattle.bounded.specs.Bounded.{Makes}
+use Rattle.running.specs.Kept.{Makes}
 use Rattle.running.specs.Steps.{Stands, Ran}
 use Rattle.running.specs.declared.code.Next.{Next}
 use Rattle.running.specs.declared.op.Op.{Op}
@@ -19,7 +19,6 @@ use Rattle.bounded_model.specs.declared.commands.Command.TheVariants.{Look as Lo
 use Rattle.ring_queue.specs.Calls.{is_call}
 use Rattle.ring_queue.specs.declared.calls.looking.LookAt.{LookAt}
 use Rattle.ring_queue.specs.Ring.{Answered}
-use Rattle.bounded.specs.declared.bounded.Laid as laid
 use Rattle.ring_queue.specs.Ring.{RingQueue}
 use Rattle.ring_queue.specs.declared.call_parts.walk.Walk.{Walk}
 use Rattle.ring_queue.specs.declared.call_parts.walking.WalkAt.TheVariants.{LoadSlot}
@@ -42,14 +41,14 @@ module _ {T : Type 0} where
   abbrev pub look_account : Limits → Account T (SeatLine T) (Operation T) LookAt (Answered Bool)
   look_account k = to_answer (λ s. LookFirst) look_line (λ s. []) (λ s. IsRead (capacity_of k) s.at) (λ o a. At (ends a.kept.index (AnswerLook a.reply)))
 
-module _ {T P : Type 0} {g : laid.Ghosts P T (SeatLine T) (Operation T)} where
+module _ {T : Type 0} where
   -- what some steps of it give
-  abbrev pub LookRan : RingQueue T P g → Operation T → Pass T (SeatLine T) → Pass T (SeatLine T) → Next LookAt (Answered Bool) → Type 0
+  abbrev pub LookRan : RingQueue T → Operation T → Pass T (SeatLine T) → Pass T (SeatLine T) → Next LookAt (Answered Bool) → Type 0
   LookRan c o p q r = Ran (machine_of c) (look_account c.table.shared.key) c.table.shared.table_id o p q r
 
   -- an operation is at this
-  abbrev pub LookStands : RingQueue T P g → Pass T (SeatLine T) → LookAt → Type 0
+  abbrev pub LookStands : RingQueue T → Pass T (SeatLine T) → LookAt → Type 0
   LookStands c p s = Stands (machine_of c) (look_account c.table.shared.key) c.table.shared.table_id p s
 
-  abbrev pub IsLooking : RingQueue T P g → LookOp T → Type 0
+  abbrev pub IsLooking : RingQueue T → LookOp T → Type 0
   IsLooking c op = Makes (machine_of c) (look_account c.table.shared.key) c.table.shared.table_id (is_call LookCall) op

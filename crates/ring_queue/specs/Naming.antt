@@ -1,7 +1,5 @@
 -- The names of a ring's steps, from its machine's table.
 use Rattle.std.specs.Prelude.{ℕ}
-use Rattle.bounded_model.specs.declared.commands.Operation.{Operation}
-use Rattle.bounded_model.specs.declared.commands.Operation.TheVariants as calls
 use Rattle.bounded_model.specs.declared.history.Event.{Event}
 use Rattle.ring_machine.specs.declared.lines.Front.TheVariants.{ToLook}
 use Rattle.ring_machine.specs.declared.lines.Line.{Line}
@@ -12,11 +10,12 @@ use Rattle.step_names.specs.declared.location.Location.{Location}
 use Rattle.step_names.specs.declared.location.Location.TheVariants as location
 use Rattle.step_names.specs.declared.step_name.StepName.{StepName}
 use Rattle.step_names.specs.Names.{IsNamed, Naming}
-use Rattle.ring_queue.specs.Closing.{CloseOp, ShutOp, mark_line}
-use Rattle.ring_queue.specs.Looking.{LookOp}
-use Rattle.ring_queue.specs.Putting.{PutOp, put_line}
-use Rattle.ring_queue.specs.declared.life.ring.AnyOp.{AnyOp}
-use Rattle.ring_queue.specs.Taking.{TakeOp, take_line}
+use Rattle.ring_queue.specs.Closing.{mark_line}
+use Rattle.ring_queue.specs.Putting.{put_line}
+use Rattle.ring_queue.specs.Stepwise.{AnyOp}
+use Rattle.ring_queue.specs.Taking.{take_line}
+use Rattle.ring_queue.specs.declared.calls.every.RingAt.{RingAt}
+use Rattle.ring_queue.specs.declared.calls.every.RingAt.TheVariants as calls
 use Rattle.ring_queue.specs.Walking.{Aim, to_back, to_front, walk_line}
 
 abbrev pub word_at : Place → Location
@@ -37,13 +36,12 @@ module _ {T : Type 0} where
   abbrev pub IsNextStep : Line T → StepName → Type 0
   IsNextStep line name = (n limit : ℕ) → IsNamed (naming n limit) line name
 
-  -- the next step of a call has this name
-  abbrev pub IsCallStep : Operation (PutOp T) (TakeOp T) (CloseOp T) (ShutOp T) (LookOp T) → StepName → Type 0
-  IsCallStep (calls.Put op) name = IsNextStep (put_line op.at) name
-  IsCallStep (calls.Take op) name = (n : ℕ) → IsNextStep (take_line n op.at) name
-  IsCallStep (calls.Close op) name = IsNextStep (mark_line op.at) name
-  IsCallStep (calls.Shut op) name = IsNextStep (mark_line op.at) name
-  IsCallStep (calls.Look op) name = IsNextStep (walk_line (to_front ToLook) op.at.at) name
+  -- the next step of an operation has this name
+  abbrev pub IsStepAt : RingAt T → StepName → Type 0
+  IsStepAt (calls.Put at) name = IsNextStep (put_line at) name
+  IsStepAt (calls.Take at) name = (n : ℕ) → IsNextStep (take_line n at) name
+  IsStepAt (calls.Mark at) name = IsNextStep (mark_line at) name
+  IsStepAt (calls.Look at) name = IsNextStep (walk_line (to_front ToLook) at.at) name
 
   abbrev pub IsStep : AnyOp T → StepName → Type 0
-  IsStep op name = IsCallStep op.call name
+  IsStep op name = IsStepAt op.at name

@@ -12,7 +12,7 @@ use Rattle.ring_machine.specs.declared.lines.Line.{Line}
 use Rattle.ring_machine.specs.declared.lines.Line.TheVariants.{FetchTail as FetchLine, PutCell, PassTail as PassLine, Stow as StowLine}
 use Rattle.ring_machine.specs.Machine.{ends}
 use Rattle.running.specs.Code.{Account, to_answer}
-use Rattle.bounded.specs.Bounded.{Makes}
+use Rattle.running.specs.Kept.{Makes}
 use Rattle.running.specs.Steps.{Stands, Ran}
 use Rattle.running.specs.declared.code.Next.{Next}
 use Rattle.running.specs.declared.op.Op.{Op}
@@ -25,7 +25,6 @@ use Rattle.ring_queue.specs.Calls.{is_call, put_of}
 use Rattle.ring_queue.specs.declared.calls.putting.PutAt.{PutAt}
 use Rattle.ring_queue.specs.declared.calls.putting.PutAt.TheVariants.{FetchTail, Walking, Exchange, PassTail, Stow}
 use Rattle.ring_queue.specs.Ring.{Answered}
-use Rattle.bounded.specs.declared.bounded.Laid as laid
 use Rattle.ring_queue.specs.Ring.{RingQueue}
 use Rattle.ring_queue.specs.Limits.{laps_at}
 use Rattle.ring_queue.specs.Ring.{machine_of}
@@ -92,15 +91,15 @@ module _ {T : Type 0} where
   abbrev pub put_account : Limits → Account T (SeatLine T) (Operation T) (PutAt T) (Answer T)
   put_account k = to_answer (λ s. put_of (put_value s)) (λ s. At (put_line s)) put_slots (λ s. HasReadToPut (capacity_of k) (laps_at k) s) (λ o a. At (ends a.kept.index (AnswerPut a.reply)))
 
-module _ {T P : Type 0} {g : laid.Ghosts P T (SeatLine T) (Operation T)} where
+module _ {T : Type 0} where
   -- a put of x, by its operation: the put of the value that the operation has is a put of x too
-  abbrev pub IsPutting : RingQueue T P g → T → PutOp T → Type 0
+  abbrev pub IsPutting : RingQueue T → T → PutOp T → Type 0
   IsPutting c x op = Makes (machine_of c) (put_account c.table.shared.key) c.table.shared.table_id (is_call (PutCall x)) op
 
   -- a whole call of this operation is at this
-  abbrev pub PutStands : RingQueue T P g → Operation T → Pass T (SeatLine T) → PutAt T → Type 0
+  abbrev pub PutStands : RingQueue T → Operation T → Pass T (SeatLine T) → PutAt T → Type 0
   PutStands c o p s = (o ≡ put_of (put_value s)) × Stands (machine_of c) (put_account c.table.shared.key) c.table.shared.table_id p s
 
   -- what some steps of it give
-  abbrev pub PutRan : RingQueue T P g → Operation T → Pass T (SeatLine T) → Pass T (SeatLine T) → Next (PutAt T) (Answer T) → Type 0
+  abbrev pub PutRan : RingQueue T → Operation T → Pass T (SeatLine T) → Pass T (SeatLine T) → Next (PutAt T) (Answer T) → Type 0
   PutRan c o p q r = Ran (machine_of c) (put_account c.table.shared.key) c.table.shared.table_id o p q r

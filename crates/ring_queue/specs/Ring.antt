@@ -7,25 +7,24 @@ use Rattle.bounded_model.specs.Machine.{Shape}
 use Rattle.ring_machine.specs.Machine.{resting}
 use Rattle.running.specs.Machine as running
 use Rattle.running.specs.Passes as passes
-use Rattle.bounded.specs.Bounded as bounded
-use Rattle.bounded.specs.declared.bounded.Bounded.{Bounded}
-use Rattle.bounded.specs.declared.bounded.Laid as laid
-use Rattle.bounded.specs.declared.passes.Answered as answers
-use Rattle.bounded.specs.declared.passes.Pass as between
+use Rattle.running.specs.Kept as kept
+use Rattle.running.specs.declared.kept.Answered as answers
+use Rattle.running.specs.declared.kept.PassWith.{PassWith}
 use Rattle.running.specs.declared.passes.Note.{Note}
 use Rattle.ring_table.specs.Seats.{names}
 use Rattle.ring_table.specs.declared.line.SeatLine.{SeatLine}
 use Rattle.ring_table.specs.declared.line.SeatLine.TheVariants.{At}
 use Rattle.ring_table.specs.declared.operation.Operation.{Operation}
+use Rattle.ring_queue.specs.declared.life.ring.RingQueue as declared
 use Rattle.ring_queue.specs.declared.life.spare.Spare.{Spare}
 use Rattle.ring_queue.specs.Limits.{laps_at, machine_at}
 
 -- a ring, its passes and its root, and what an operation has answered
-abbrev pub RingQueue : (T P : Type 0) → laid.Ghosts P T (SeatLine T) (Operation T) → Type 0
-RingQueue T P g = Bounded T (SeatLine T) (Operation T) P 0 g
+abbrev pub RingQueue : Type 0 → Type 0
+RingQueue T = declared.RingQueue T
 
 abbrev pub Pass : Type 0 → Type 0
-Pass T = between.Pass T (SeatLine T) Spare
+Pass T = PassWith T (SeatLine T) Spare
 
 abbrev pub Answered : Type 0 → Type 0
 Answered A = answers.Answered Spare A
@@ -40,28 +39,28 @@ module _ {T : Type 0} where
   keeps l spare = l ≡ At (resting spare.index)
 
   abbrev pub pass_in : Pass T → PassView T
-  pass_in p = bounded.pass_in p
+  pass_in p = kept.pass_in p
 
-module _ {T P : Type 0} {g : laid.Ghosts P T (SeatLine T) (Operation T)} where
+module _ {T : Type 0} where
   -- how many slots it has, how often each of them can be filled, and for how many passes it is
-  abbrev pub room_of : RingQueue T P g → ℕ
+  abbrev pub room_of : RingQueue T → ℕ
   room_of c = capacity_of c.table.shared.key
 
-  abbrev pub laps_of : RingQueue T P g → ℕ
+  abbrev pub laps_of : RingQueue T → ℕ
   laps_of c = laps_at c.table.shared.key
 
-  abbrev pub passes_of : RingQueue T P g → ℕ
+  abbrev pub passes_of : RingQueue T → ℕ
   passes_of c = limits.passes_of c.table.shared.key
 
-  abbrev pub machine_of : RingQueue T P g → running.Machine T (SeatLine T) (Operation T) names
+  abbrev pub machine_of : RingQueue T → running.Machine T (SeatLine T) (Operation T) names
   machine_of c = machine_at c.table.shared.key
 
-  abbrev pub shape_of : RingQueue T P g → Shape
+  abbrev pub shape_of : RingQueue T → Shape
   shape_of c = (machine_of c).core.shape
 
   -- a pass between its operations, and a note of one of its passes
-  abbrev pub IsPassOf : RingQueue T P g → Pass T → Type 0
-  IsPassOf c p = bounded.IsPassAt (machine_of c) keeps c.table.shared.table_id p
+  abbrev pub IsPassOf : RingQueue T → Pass T → Type 0
+  IsPassOf c p = kept.IsPassAt (machine_of c) keeps c.table.shared.table_id p
 
-  abbrev pub IsNoteOf : RingQueue T P g → Note T (SeatLine T) → Type 0
+  abbrev pub IsNoteOf : RingQueue T → Note T (SeatLine T) → Type 0
   IsNoteOf c n = passes.IsNoteOn (machine_of c) c.table.shared.table_id n

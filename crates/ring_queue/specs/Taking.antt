@@ -11,7 +11,7 @@ use Rattle.ring_machine.specs.declared.lines.Line.{Line}
 use Rattle.ring_machine.specs.declared.lines.Line.TheVariants.{TakeCell, PassHead as PassLine, Stow as StowLine}
 use Rattle.ring_machine.specs.Machine.{ends, take_done}
 use Rattle.running.specs.Code.{Account, to_answer}
-use Rattle.bounded.specs.Bounded.{Makes}
+use Rattle.running.specs.Kept.{Makes}
 use Rattle.running.specs.Steps.{Stands, Ran}
 use Rattle.running.specs.declared.code.Next.{Next}
 use Rattle.running.specs.declared.op.Op.{Op}
@@ -23,7 +23,6 @@ use Rattle.ring_table.specs.declared.operation.Operation.TheVariants.{Take as Ta
 use Rattle.bounded_model.specs.declared.commands.Command.TheVariants.{Take as TakeCall}
 use Rattle.ring_queue.specs.Calls.{is_call}
 use Rattle.ring_queue.specs.Ring.{Answered}
-use Rattle.bounded.specs.declared.bounded.Laid as laid
 use Rattle.ring_queue.specs.Ring.{RingQueue}
 use Rattle.ring_queue.specs.declared.calls.taking.TakeAt.{TakeAt}
 use Rattle.ring_queue.specs.declared.calls.taking.TakeAt.TheVariants.{Walking, Exchange, PassHead, Stow}
@@ -70,14 +69,14 @@ module _ {T : Type 0} where
   abbrev pub take_account : Limits → Account T (SeatLine T) (Operation T) (TakeAt T) (Answer T)
   take_account k = to_answer (λ s. TakeFirst) (λ s. At (take_line (capacity_of k) s)) take_slots (λ s. HasReadToTake (capacity_of k) (laps_at k) s) (λ o a. At (ends a.kept.index (AnswerTake a.reply)))
 
-module _ {T P : Type 0} {g : laid.Ghosts P T (SeatLine T) (Operation T)} where
+module _ {T : Type 0} where
   -- a whole call is at this
-  abbrev pub TakeStands : RingQueue T P g → Pass T (SeatLine T) → TakeAt T → Type 0
+  abbrev pub TakeStands : RingQueue T → Pass T (SeatLine T) → TakeAt T → Type 0
   TakeStands c p s = Stands (machine_of c) (take_account c.table.shared.key) c.table.shared.table_id p s
 
-  abbrev pub IsTaking : RingQueue T P g → TakeOp T → Type 0
+  abbrev pub IsTaking : RingQueue T → TakeOp T → Type 0
   IsTaking c op = Makes (machine_of c) (take_account c.table.shared.key) c.table.shared.table_id (is_call TakeCall) op
 
   -- what some steps of it give
-  abbrev pub TakeRan : RingQueue T P g → Operation T → Pass T (SeatLine T) → Pass T (SeatLine T) → Next (TakeAt T) (Answer T) → Type 0
+  abbrev pub TakeRan : RingQueue T → Operation T → Pass T (SeatLine T) → Pass T (SeatLine T) → Next (TakeAt T) (Answer T) → Type 0
   TakeRan c o p q r = Ran (machine_of c) (take_account c.table.shared.key) c.table.shared.table_id o p q r

@@ -14,8 +14,6 @@ use Rattle.running.specs.declared.code.Next.{Next}
 use Rattle.ring_table.specs.Layout.{head_at, tail_at}
 use Rattle.ring_table.specs.declared.line.SeatLine.{SeatLine}
 use Rattle.ring_table.specs.declared.line.SeatLine.TheVariants.{At}
-use Rattle.bounded.specs.declared.bounded.Laid as laid
-use Rattle.ring_table.specs.declared.operation.Operation.{Operation}
 use Rattle.ring_queue.specs.Ring.{RingQueue}
 use Rattle.ring_queue.specs.declared.life.spare.Spare.{Spare}
 use Rattle.ring_queue.specs.declared.call_parts.walk.Walk.{Walk}
@@ -80,14 +78,14 @@ module _ {T : Type 0} where
   end_line n limit (to_back s) f = at_back n limit (line_of f.walk) s (fields_of f.slot)
   end_line n limit (to_front s) f = at_front (line_of f.walk) s (fields_of f.slot)
 
-module _ {T P : Type 0} {g : laid.Ghosts P T (SeatLine T) (Operation T)} where
+module _ {T : Type 0} where
   -- what a step leads to, with this spare cell, and with these slots in hand before it and after it
-  abbrev pub Walks : RingQueue T P g → SeatLine T → Aim T → Spare → List (ℕ × Slot T) → List (ℕ × Slot T) → Next WalkAt Found → Type 0
+  abbrev pub Walks : RingQueue T → SeatLine T → Aim T → Spare → List (ℕ × Slot T) → List (ℕ × Slot T) → Next WalkAt Found → Type 0
   Walks c l aim spare had has to = MatchNext to
       (λ at. (l ≡ At (walk_line aim at)) × (has ≡ had) × IsRead (room_of c) at × (spare_at at ≡ spare))
       (λ end. (l ≡ At (end_line (room_of c) (2 * laps_of c) aim end)) × (has ≡ had) × IsEnd (room_of c) (laps_of c) (full_of aim) end × (end.walk.spare ≡ spare))
 
   -- where a step leads that had the outcome r
-  abbrev pub WalkedTo : RingQueue T P g → Aim T → WalkAt → Outcome → List (ℕ × Slot T) → List (ℕ × Slot T) → Next WalkAt Found → Type 0
+  abbrev pub WalkedTo : RingQueue T → Aim T → WalkAt → Outcome → List (ℕ × Slot T) → List (ℕ × Slot T) → Next WalkAt Found → Type 0
   WalkedTo c aim at r had has to = Came (machine_of c).core (At (walk_line aim at)) r had has
       → Finding (machine_of c).core (At (walk_line aim at)) r had has (λ found came. Walks c ((machine_of c).core.next (At (walk_line aim at)) found came) aim (spare_at at) had has to)

@@ -2,6 +2,7 @@
 
 pub(crate) mod closing;
 pub(crate) mod counting;
+pub(crate) mod every;
 pub(crate) mod gauging;
 pub(crate) mod looking;
 pub(crate) mod putting;

@@ -20,24 +20,24 @@
 
 mod call_parts;
 mod calls;
+mod container;
 mod fast_paths;
 mod life;
 mod naming;
-mod parts;
 mod places;
-mod program;
 mod rule;
+mod stepwise;
 
 pub use calls::closing::{CloseOp, ShutOp};
-pub use calls::counting::{LenOp, begin_len, len};
-pub use calls::gauging::{Gauge, GaugeOp, begin_gauge, read_gauge};
+pub use calls::counting::LenOp;
+pub use calls::every::{AnyOp, RingAt};
+pub use calls::gauging::{Gauge, GaugeOp};
 pub use calls::looking::LookOp;
 pub use calls::putting::PutOp;
 pub use calls::taking::TakeOp;
-pub use life::ending::end;
 pub use life::limits::{MAX_LAPS, MIN_LAPS, RingLimits};
 pub use life::rest::Rest;
-pub use life::ring::{Answered, AnyOp, Note, Pass, RingQueue, Root};
+pub use life::ring::{Answered, Note, Pass, RingQueue, Root};
 pub use life::spare::Spare;
 pub use places::ring_places;
 pub use rule::Ringed;

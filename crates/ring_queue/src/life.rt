@@ -3,6 +3,7 @@
 pub(crate) mod ending;
 pub(crate) mod limits;
 pub(crate) mod making;
+pub(crate) mod passes;
 pub(crate) mod rest;
 pub(crate) mod ring;
 pub(crate) mod spare;

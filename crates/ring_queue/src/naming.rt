@@ -8,14 +8,11 @@ ghost use Rattle.ring_queue.specs.Walking.{Aim, walk_line};
 
 use crate::call_parts::walking::WalkAt;
 use crate::calls::closing::{Mark, MarkAt};
+use crate::calls::every::{AnyOp, RingAt};
 use crate::calls::putting::PutAt;
 use crate::calls::taking::TakeAt;
-use crate::life::ring::{AnyOp, RingQueue};
-use crate::rule::Ringed;
-use bounded::NamesSteps;
-use bounded_model::Operation as AnyCall;
-use ring_table::{Operation, SeatLine};
-use step_names::{Location, StepName};
+use crate::life::ring::RingQueue;
+use step_names::{Location, Named, StepName};
 
 // The next step of a walk from this hint.
 fn walk_step<T>(hint: Location, at: &WalkAt) -> StepName
@@ -75,16 +72,15 @@ fn mark_name<T>(at: &MarkAt) -> StepName
     }
 }
 
-impl<T: Drop + Send> NamesSteps<RingQueue<T>, T, SeatLine<T>, Operation<T>, Ringed, 0> for Ringed {
+impl<T: Drop + Send> Named<T> for RingQueue<T> {
     ghost is_step = { IsStep };
 
     fn step_name(op: &AnyOp<T>) -> StepName {
-        match &op.call {
-            AnyCall::Put(op) => put_name::<T>(&op.at),
-            AnyCall::Take(op) => take_name::<T>(&op.at),
-            AnyCall::Close(op) => mark_name::<T>(&op.at),
-            AnyCall::Shut(op) => mark_name::<T>(&op.at),
-            AnyCall::Look(op) => walk_step::<T>(Location::Head, &op.at.at),
+        match &op.at {
+            RingAt::Put(at) => put_name::<T>(at),
+            RingAt::Take(at) => take_name::<T>(at),
+            RingAt::Mark(at) => mark_name::<T>(at),
+            RingAt::Look(at) => walk_step::<T>(Location::Head, &at.at),
         }
     }
 }

@@ -1,5 +1,4 @@
 //! The ring's machine.
-use bounded::Laid;
 use ring_table::{Operation, SeatLine};
 use running::{ListMachine, Machine};
 use std::marker::PhantomData;
@@ -42,16 +41,4 @@ impl<T> ListMachine<T, SeatLine<T>, Operation<T>, 0> for Ringed {
     }
 
     ghost laws = { λ limits. list_laws T (capacity_of limits) (laps_at limits) (passes_of limits) };
-}
-
-impl<T> Laid<T, SeatLine<T>, Operation<T>> for Ringed {
-    ghost use Rattle.std.specs.Prelude.{◌+◌};
-    ghost use Rattle.tagged_index.specs.Limits.{capacity_of, passes_of};
-    ghost use Rattle.ring_table.specs.Layout.{words_for};
-
-    ghost words_for = { λ limits. words_for (capacity_of limits) };
-
-    ghost slots_for = { λ limits. capacity_of limits + passes_of limits };
-
-    ghost passes_for = { λ limits. passes_of limits };
 }

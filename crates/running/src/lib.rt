@@ -9,28 +9,31 @@ mod call;
 mod calls;
 mod code;
 mod fast_path;
+mod kept;
 mod leaving;
 mod lists;
 mod op;
 mod passes;
 mod pause;
+mod replies;
 mod rule;
 mod seats;
 mod stepping;
 mod steps;
+mod whole_calls;
 
 pub use access::{Access, Outcome};
-pub use call::{Call, HasTable};
-pub use calls::{at_once, to_the_end, try_for};
+pub use call::HasTable;
+pub use calls::{to_the_end, try_for};
 pub use code::{Code, Next, OnTable};
 pub use index_list::raised;
+pub use kept::{Answered, PassWith, RootWith, told};
 pub use leaving::aside;
-pub use lists::{
-    ListMachine, give_chain_step, load_link_step, load_top_step, store_link_step, take_all_step,
-    take_first_step,
-};
+pub use lists::{ListMachine, load_top_step, store_link_step};
 pub use op::Op;
 pub use passes::{Note, Pass, Root, heed, join, make_note, meet, split};
+pub use replies::{Keeping, Replies};
 pub use rule::{Machine, Running};
 pub use seats::peek;
-pub use stepping::{any, first_step, single_step, step};
+pub use stepping::{any, first_step};
+pub use whole_calls::{leave, whole};

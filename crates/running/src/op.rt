@@ -1,15 +1,18 @@
 //! An operation that was begun, on any container: one type for all operations of a machine.
 ghost use Rattle.std.specs.Prelude.{◌≡◌, ◌<◌};
-ghost use Rattle.running.specs.Ops.{IsFirst, IsUnderWay, OpStep, OpRan, underway_of};
+ghost use Rattle.running.specs.Kept.{OpRunsFor, OpSteps};
+ghost use Rattle.running.specs.Ops.{IsFirst, IsUnderWay, underway_of};
 ghost use Rattle.bounded_model.specs.Stepping.{no_step};
 ghost use Rattle.running.specs.Passes.{IsPassOn, pass_in};
 ghost use Rattle.running.specs.Rule.{line_in};
 
-use crate::call::{Call, HasTable};
+use crate::call::HasTable;
 use crate::calls::try_for;
 use crate::code::{Code, Next, OnTable};
+use crate::kept::{Answered, PassWith};
 use crate::lists::ListMachine;
 use crate::passes::Pass;
+use crate::replies::{Keeping, Replies};
 use crate::stepping::single_step;
 use bounded_model::Stepped;
 
@@ -48,47 +51,56 @@ impl<T, L, O: Drop, S> Op<T, L, O, S> {
         }
     }
 
-    /// Makes one step of the machine, which is one act of its pass.
+    /// Makes one step of the machine, which is one act of its pass. If it ends the operation, the
+    /// pass comes back with what it keeps now, and the reply.
     #[inline]
-    pub fn step<C: HasTable<T, L, O, M>, M: ListMachine<T, L, O, N>, A, const N: usize>(
-        self,
-        on: &C,
-    ) -> Stepped<Op<T, L, O, S>, Pass<T, L>, A>
+    pub fn step<
+        C: HasTable<T, L, O, M> + Keeping<L, K>,
+        M: ListMachine<T, L, O, N>,
+        K,
+        R,
+        const N: usize,
+    >(self, on: &C) -> Stepped<Op<T, L, O, S>, PassWith<T, L, K>, R>
     where
-        S: Call<C, T, L, O, M, A, N>,
+        S: Replies<C, T, L, O, M, K, R, N>,
         requires { IsUnderWay (M.machine (C.key on.now)) (S.account (C.key on.now)) (C.id on.now)
             self }
-        ensures { OpStep (M.machine (C.key on.now)) (S.account (C.key on.now)) (C.id on.now)
-            (S.promises (C.key on.now)) self result }
+        ensures { OpSteps (M.machine (C.key on.now)) (S.account (C.key on.now)) C.keeps
+            (C.id on.now) (S.gives (C.key on.now)) self result }
     {
         let Op {
             pass,
             operation,
             at,
         } = self;
-        match single_step::<C, T, L, O, M, A, S, N>(on.table(), on, pass, at, &operation) {
+        match single_step::<C, T, L, O, M, _, S, N>(on.table(), on, pass, at, &operation) {
             Stepped::Again((pass, at)) => Stepped::Again(Op {
                 pass,
                 operation,
                 at,
             }),
-            Stepped::Done(pass, answer) => Stepped::Done(pass, answer),
+            Stepped::Done(pass, answer) => {
+                let Answered { kept, reply } = answer;
+                Stepped::Done(PassWith { pass, kept }, reply)
+            }
         }
     }
 
     /// Makes at most `steps` steps, with a wait after each compare-and-swap that failed.
     #[inline]
-    pub fn run_for<C: HasTable<T, L, O, M>, M: ListMachine<T, L, O, N>, A, const N: usize>(
-        self,
-        on: &C,
-        steps: u64,
-    ) -> Stepped<Op<T, L, O, S>, Pass<T, L>, A>
+    pub fn run_for<
+        C: HasTable<T, L, O, M> + Keeping<L, K>,
+        M: ListMachine<T, L, O, N>,
+        K,
+        R,
+        const N: usize,
+    >(self, on: &C, steps: u64) -> Stepped<Op<T, L, O, S>, PassWith<T, L, K>, R>
     where
-        S: Call<C, T, L, O, M, A, N>,
+        S: Replies<C, T, L, O, M, K, R, N>,
         requires { IsUnderWay (M.machine (C.key on.now)) (S.account (C.key on.now)) (C.id on.now)
             self }
-        ensures { OpRan (M.machine (C.key on.now)) (S.account (C.key on.now)) (C.id on.now)
-            (S.promises (C.key on.now)) steps self result }
+        ensures { OpRunsFor (M.machine (C.key on.now)) (S.account (C.key on.now)) C.keeps
+            (C.id on.now) (S.gives (C.key on.now)) steps self result }
     {
         let Op {
             pass,
@@ -96,13 +108,16 @@ impl<T, L, O: Drop, S> Op<T, L, O, S> {
             at,
         } = self;
         let first = (pass, Next::On(at));
-        match try_for::<C, T, L, O, M, A, S, N>(on.table(), on, first, &operation, steps) {
+        match try_for::<C, T, L, O, M, _, S, N>(on.table(), on, first, &operation, steps) {
             Stepped::Again((pass, at)) => Stepped::Again(Op {
                 pass,
                 operation,
                 at,
             }),
-            Stepped::Done(pass, answer) => Stepped::Done(pass, answer),
+            Stepped::Done(pass, answer) => {
+                let Answered { kept, reply } = answer;
+                Stepped::Done(PassWith { pass, kept }, reply)
+            }
         }
     }
 }

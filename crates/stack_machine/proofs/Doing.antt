@@ -93,7 +93,7 @@ module _ {T : Type 0} (c : Shape) where
 
   -- a call that has just been begun has done nothing
   pub begins : (p : ℕ) (h : List (Event T)) (call : Call T) → Deeds c p call (starts call) h h
-  begins p h (CallPut v vs) = record { between = []; is = refl; made = (refl, refl); all = tt }
+  begins p h (CallPut v vs) = record { between = []; is = refl; made = (refl, refl, omega arith); all = tt }
   begins p h call = record { between = []; is = refl; made = (refl, refl); all = tt }
 
 module _ {T : Type 0} (n limit : ℕ) (p : ℕ) (call : Call T) (begun h : List (Event T)) where
@@ -208,10 +208,10 @@ module _ {T : Type 0} (n limit : ℕ) (p : ℕ) (call : Call T) (begun h : List 
         (λ e. stays s s.made tt))
 
     -- an exchange that takes a node
-    take_free_does : (put : Putting T) (w : Tagged) (k : ℕ) → At (TakeFree put w k) → Deeds c p call (at_take_free put w) begun (Hold p ∷ h)
-    take_free_does put w k s =
+    take_free_does : (put : Putting T) (w : Tagged) (k : ℕ) → length put.chain < length put.values → At (TakeFree put w k) → Deeds c p call (at_take_free put w) begun (Hold p ∷ h)
+    take_free_does put w k wants s =
         let more : Putting T = with_node put w.index in
-        let holds_one : HasHeld p call more (Hold p ∷ own p s.between) = (s.made.0, ap (λ (x : List (Event T)). Hold p ∷ x) s.made.1) in
+        let holds_one : HasHeld p call more (Hold p ∷ own p s.between) = (s.made.0, ap (λ (x : List (Event T)). Hold p ∷ x) s.made.1, omega arith) in
         cases Held (eqb (length put.chain) 0) (next_node more) (LinkTaken more)
         (λ e. cases Held (ltb (length more.chain) (length more.values)) (LoadFree more) (LoadTop more)
         (λ e. adds (Hold p) s refl holds_one tt)
@@ -271,7 +271,7 @@ module _ {T : Type 0} (n limit : ℕ) (p : ℕ) (call : Call T) (begun h : List 
     does g (Idle a) r f s = s
     does g (LoadFree put) r f s = load_free_does g put r s
     does g (LoadFreeLink put w) r f s = stays s s.made tt
-    does g (TakeFree put w k) r f s = (λ won. take_free_does put w k s, stays s s.made tt)
+    does g (TakeFree put w k) r f s = (λ won. take_free_does put w k f.0.wants s, stays s s.made tt)
     does g (LinkTaken put) r f s = next_does put s s.made
     does g (LoadTop put) r f s = load_top_does put m.top f.some_node f.few s
     does g (SwapTop put w) r f s = (λ won. swap_top_does put w f.0.some_node f.0.few s, stays s s.made s.all)

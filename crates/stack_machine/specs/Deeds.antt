@@ -104,8 +104,9 @@ module _ {T : Type 0} (p : ℕ) where
   IsPut (CallPut v vs) values = values ≡ v ∷ vs
   IsPut call values = ⊥
 
+  -- and has taken a node for each of some of them
   abbrev pub HasHeld : Call T → Putting T → List (Event T) → Type 0
-  HasHeld call put events = IsPut call put.values × (events ≡ holds_of p (length put.chain))
+  HasHeld call put events = IsPut call put.values × (events ≡ holds_of p (length put.chain)) × (length put.chain ≤ length put.values)
 
   -- the chain is still to be given back
   abbrev pub HasToGive : Call T → Giving T → List (Event T) → Type 0

@@ -6,7 +6,6 @@ use Rattle.stack_machine.specs.declared.lines.Line.{Line}
 use Rattle.stack_table.specs.declared.operation.Operation.{Operation}
 use Rattle.treiber_stack.specs.declared.bulk.range_steps.Held.{Held}
 use Rattle.treiber_stack.specs.declared.bulk.range_steps.RangeAt.TheVariants.{LoadFree, Load}
-use Rattle.bounded.specs.declared.bounded.Laid as laid
 use Rattle.treiber_stack.specs.Copying.{IsCopying}
 use Rattle.treiber_stack.specs.Stack.{Stack}
 use Rattle.treiber_stack.specs.Ran.{IsRange}
@@ -23,7 +22,7 @@ module _ {T : Type 0} where
   pub next_here : (vs : List T) (k : ℕ) (x : T) → k < length vs → x ≡ get_or vs k x → IsNext vs k (Some x)
   next_here vs k x low is = (low, ap Some is ∙ sym (here vs k x low))
 
-module _ {T P : Type 0} {g : laid.Ghosts P T (Line T) (Operation T)} (c : Stack T P g) (o : Operation T) (vs : List T) (is : IsRange o vs) (q : Pass T (Line T)) (nodes : Held) (f : IsFilling c o q vs nodes) where
+module _ {T : Type 0} (c : Stack T) (o : Operation T) (vs : List T) (is : IsRange o vs) (q : Pass T (Line T)) (nodes : Held) (f : IsFilling c o q vs nodes) where
   long : length (places_from nodes.count vs) ≡ length vs
   long = ranging.length_places nodes.count vs f.has.few
 

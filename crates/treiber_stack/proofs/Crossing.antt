@@ -6,13 +6,10 @@ use denote.Struct.Field.{row_field}
 use Rattle.std.proofs.Crossing.{send as heap_send}
 use Rattle.atomic_table.proofs.shared.Seat.TheSendSync.{the_send as seat_send}
 use Rattle.running.proofs.Crossing.{row_send, lease_send}
-use Rattle.bounded_model.specs.contracts.commands.Operation as any
 use Rattle.running.specs.contracts.op.Op as op
 use Rattle.stack_machine.specs.contracts.lines.Line as line
 use Rattle.stack_table.specs.contracts.operation.Operation as operation
-use Rattle.treiber_stack.specs.contracts.life.stack.AnyOp as own_op
-use Rattle.treiber_stack.specs.contracts.calls.closing.MarkAt as mark_at
-use Rattle.treiber_stack.specs.contracts.calls.looking.LookAt as look_at
+use Rattle.treiber_stack.specs.contracts.calls.every.StackAt as every
 use Rattle.treiber_stack.specs.contracts.calls.putting.PutAt as put_at
 use Rattle.treiber_stack.specs.contracts.life.rest.Rest as rest
 use Rattle.treiber_stack.specs.contracts.calls.taking.TakeAt as take_at
@@ -34,13 +31,9 @@ op_in T A = op.the_row T (line.the_row T) (operation.the_row T) A
 in_send : (T A : RattleType) → IsSend T → IsSend A → IsSend (op_in T A)
 in_send T A s a = declared_send (op.the_type T (line.the_row T) (operation.the_row T) A) (search (sendable, seat_send) depth 30, (search sendable depth 20, (as_row_send (row_field A) a, tt)))
 
--- a close and a shut have the same states
-calls_send : (T : RattleType) → IsSend T → IsSend (any.the_row (op_in T (put_at.the_row T)) (op_in T (take_at.the_row T)) (op_in T mark_at.the_row) (op_in T mark_at.the_row) (op_in T look_at.the_row))
-calls_send T s =
-    let mark : IsSend (op_in T mark_at.the_row) = in_send T mark_at.the_row s (search sendable depth 30) in
-    variants_send (any.enum (op_in T (put_at.the_row T)) (op_in T (take_at.the_row T)) (op_in T mark_at.the_row) (op_in T mark_at.the_row) (op_in T look_at.the_row))
-    ((in_send T (put_at.the_row T) s (put_at_send T s), tt), ((in_send T (take_at.the_row T) s (take_at_send T s), tt), ((mark, tt), ((mark, tt), ((in_send T look_at.the_row s (search sendable depth 30), tt), tt)))))
+every_send : (T : RattleType) → IsSend T → IsSend (every.the_row T)
+every_send T s = variants_send (every.enum T) ((put_at_send T s, tt), ((take_at_send T s, tt), (search sendable depth 30, (search sendable depth 30, tt))))
 
 -- an operation, whichever call it makes
-pub op_send : (T : RattleType) → IsSend T → IsSend (own_op.the_row T)
-op_send T s = declared_send (own_op.the_type T) (as_row_send (row_field (any.the_row (op_in T (put_at.the_row T)) (op_in T (take_at.the_row T)) (op_in T mark_at.the_row) (op_in T mark_at.the_row) (op_in T look_at.the_row))) (calls_send T s), tt)
+pub op_send : (T : RattleType) → IsSend T → IsSend (op_in T (every.the_row T))
+op_send T s = in_send T (every.the_row T) s (every_send T s)

@@ -26,7 +26,6 @@ use mathlib.Core.Option.{some}
 use Rattle.running.specs.declared.passes.Pass.{Pass}
 use Rattle.running.proofs.Ways.{goes_on, started}
 use Rattle.running.specs.Passes.{pass_in}
-use Rattle.bounded.specs.declared.bounded.Laid as laid
 use Rattle.treiber_stack.specs.declared.call_parts.giving.Chain.{Chain}
 use Rattle.treiber_stack.specs.declared.bulk.range_steps.Held.{Held}
 use Rattle.treiber_stack.specs.declared.bulk.range_steps.RangeAt.TheVariants.{LoadFree as AtFree, Load as AtTop}
@@ -53,7 +52,7 @@ module _ {T : Type 0} where
   next_all : (put : Putting T) → length put.values ≤ length put.chain → next_node put ≡ LoadTop put
   next_all put h = ap (λ (b : Bool). cond b (LoadFree put) (LoadTop put)) (is_false (ltb (length put.chain) (length put.values)) (λ e. grind (arith, nat_tests)))
 
-module _ {T P : Type 0} {g : laid.Ghosts P T (Line T) (Operation T)} (c : Stack T P g) (o : Operation T) where
+module _ {T : Type 0} (c : Stack T) (o : Operation T) where
   -- a range that begins has no node yet
   pub fill_start : (vs : List T) (p : Pass T (Line T)) (nodes : Chain) → nodes ≡ record { first = NULL; last = NULL } → IsRange o vs → IsSeatOf c p → IsFilling c o p vs (record { chain = nodes; count = 0 })
   fill_start [] p nodes e is of = absurd is
@@ -69,7 +68,7 @@ module _ {T P : Type 0} {g : laid.Ghosts P T (Line T) (Operation T)} (c : Stack 
     at = subst (λ (l : Line T). IsAt c o p l []) (ap starts is ∙ sym (next_more (putting (v ∷ vs) []) (omega arith))) (started (machine_of c) c.table.shared.table_id o p of);
   }
 
-module _ {T P : Type 0} {g : laid.Ghosts P T (Line T) (Operation T)} (c : Stack T P g) (o : Operation T) (vs : List T) where
+module _ {T : Type 0} (c : Stack T) (o : Operation T) (vs : List T) where
   module _ (p : Pass T (Line T)) (held' : Held) where
     module _ (f : IsFilling c o p vs held') where
       -- it wants a node for the next value

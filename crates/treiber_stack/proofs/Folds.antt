@@ -31,7 +31,6 @@ use Rattle.running.specs.declared.passes.Pass.{Pass}
 use Rattle.running.specs.declared.access.Outcome.{Outcome}
 use Rattle.running.specs.declared.code.Next.{Next}
 use Rattle.running.specs.declared.code.Next.TheVariants.{Done}
-use Rattle.bounded.specs.declared.bounded.Laid as laid
 use Rattle.treiber_stack.specs.declared.bulk.fold_op.FoldMade.TheVariants.{Value, Done as Done'}
 use Rattle.treiber_stack.specs.declared.bulk.folding.Batch.{Batch}
 use Rattle.treiber_stack.specs.declared.bulk.folding.FoldAt.{FoldAt}
@@ -43,7 +42,7 @@ use Rattle.treiber_stack.specs.declared.call_parts.giving.Give.{Give}
 use Rattle.treiber_stack.specs.Folding.{fold_account, nodes_of, folded_of, folding, front_of, gone, fold_line, fold_slots, HasReadToFold, FoldTold}
 use Rattle.treiber_stack.specs.FoldOp.{FoldOp, IsFolding, FoldTried}
 use Rattle.treiber_stack.specs.Giving.{GaveTo}
-use Rattle.treiber_stack.specs.Ran.{FoldAnswers, WasRun}
+use Rattle.treiber_stack.specs.Ran.{FoldAnswers, WasRun, WasFolded}
 use Rattle.treiber_stack.specs.Refusing.{RefusesTake}
 use Rattle.treiber_stack.specs.Stack.{Stack, as_pass, room_of, limit_of, machine_of, shape_of, begun_of, IsAt}
 use Rattle.treiber_stack.specs.KeepsAnswers.{adds_of}
@@ -57,7 +56,7 @@ Folds_more Gives s (y ∷ ys) r t x folds next = (folds.0, folds.1, Folds_more G
 pub folds_same : {T S : Type 0} (Gives : S → T → S → Type 0) (s : S) (xs ys : List T) (r : S) → xs ≡ ys → Folds Gives s xs r → Folds Gives s ys r
 folds_same Gives s xs ys r e folds = subst (λ (zs : List _). Folds Gives s zs r) e folds
 
-module _ {T P : Type 0} {g : laid.Ghosts P T (Line T) (Operation T)} (c : Stack T P g) (front : Front) {v : View T (Line T)} {begun : PassView T} where
+module _ {T : Type 0} (c : Stack T) (front : Front) {v : View T (Line T)} {begun : PassView T} where
   pub fold_gives : (folded : List T) (t : ℕ) (e : Ended (machine_of c) (FoldFirst front) v begun (ends (AnswerFold (Ok (folded, t))))) → FoldGives begun (pass_of v) e.deeds.made.values t
   fold_gives folded t e =
       let made = e.deeds.made in
@@ -85,7 +84,7 @@ fold_busy (LoadToFold b walk) = refl
 fold_busy (GiveBack b chain n at) = busy_giving (folding b (nodes_of b)) at
 
 -- where the code of a fold goes on
-module _ {T P : Type 0} {g : laid.Ghosts P T (Line T) (Operation T)} (c : Stack T P g) where
+module _ {T : Type 0} (c : Stack T) where
   abbrev pub FoldsTo : FoldAt T → List (ℕ × Slot T) → Next (FoldAt T) (FoldStop T) → Line T → Type 0
   FoldsTo s has to l = Leads names (fold_account c.table.shared.key) s l has to
 
@@ -102,7 +101,7 @@ module _ {T P : Type 0} {g : laid.Ghosts P T (Line T) (Operation T)} (c : Stack 
       (gave_within c (fold_account c.table.shared.key) (folding b (nodes_of b)) (GiveBack b chain n) (AllGone b n) (GiveBack b chain n at)
       (λ at'. refl) (λ at'. refl) (λ at'. refl) (λ at'. subst (HasReadToFold (room_of c) (limit_of c)) is knows) refl at r has to gave)
 
-module _ {T P : Type 0} {g : laid.Ghosts P T (Line T) (Operation T)} (c : Stack T P g) where
+module _ {T : Type 0} (c : Stack T) where
   abbrev pub FoldStops : Front → PassView T → Pass T (Line T) → FoldStop T → Type 0
   FoldStops front begun q stop = Stops (machine_of c) (fold_account c.table.shared.key) c.table.shared.table_id (FoldFirst front) begun q stop
 
@@ -139,8 +138,11 @@ module _ {T P : Type 0} {g : laid.Ghosts P T (Line T) (Operation T)} (c : Stack 
         (record { on = r.0; keeps = tt }, (takes_nothing c front why r.1, sym is.handed ∙ subst (FoldTold (room_of c) (limit_of c) (front_of op.at) (gone op.at)) e told))
 
     -- it was run, as one call
-    pub all_ran : (b : Batch T) (n : ℕ) → stop ≡ AllGone b n → WasRun c (FoldFirst front) (begun_of c op.pass) (as_pass q) (AnswerFold (Ok (folded_of b, b.number)))
-    all_ran b n e = (subst (FoldStops front (begun_of c op.pass) q) e stops).1.ran refl
+    pub all_ran : (b : Batch T) (n : ℕ) → stop ≡ AllGone b n → WasFolded c (FoldFirst front) (begun_of c op.pass) (as_pass q) front (Ok (record { number = b.number; count = n }))
+    all_ran b n e =
+        let r = (subst (FoldStops front (begun_of c op.pass) q) e stops).1 in
+        let made = r.deeds.made in
+        (made.values, fold_gives c front (folded_of b) b.number r, subst (λ (vs : List T). WasRun c (FoldFirst front) (begun_of c op.pass) (as_pass q) (AnswerFold (Ok (vs, b.number)))) made.order (r.ran refl))
 
     pub all_answered : (b : Batch T) (n : ℕ) → stop ≡ AllGone b n → FoldAnswers front (Ok (record { number = b.number; count = n })) (begun_of c op.pass) (pass_in q)
     all_answered b n e =

@@ -6,14 +6,12 @@ use Rattle.machine.specs.declared.seats.View.{View}
 use Rattle.stack_machine.specs.declared.lines.Answer.TheVariants.{Gauge as AnswerGauge}
 use Rattle.stack_machine.specs.declared.lines.Line.{Line}
 use Rattle.stack_machine.specs.Machine.{ends}
-use Rattle.stack_table.specs.declared.operation.Operation.{Operation}
 use Rattle.stack_table.specs.declared.operation.Operation.TheVariants.{Gauge as GaugeFirst}
 use Rattle.running.specs.Going.{Ended}
-use Rattle.bounded.specs.declared.bounded.Laid as laid
 use Rattle.treiber_stack.specs.Gauging.{GaugeGives}
 use Rattle.treiber_stack.specs.KeepsAnswers.{adds_of}
 use Rattle.treiber_stack.specs.Stack.{Stack, machine_of, room_of, limit_of}
 
-module _ {T P : Type 0} {g : laid.Ghosts P T (Line T) (Operation T)} (c : Stack T P g) where
+module _ {T : Type 0} (c : Stack T) where
   pub gauge_gives : {v : View T (Line T)} {begun : PassView T} (closed : Bool) (used : ℕ) → Ended (machine_of c) GaugeFirst v begun (ends (AnswerGauge closed used)) → GaugeGives (room_of c) (limit_of c) begun (pass_of v) (record { closed = closed; used = used })
   gauge_gives closed used e = (adds_of c.table.shared.key e [] e.deeds.made, e.tells)

@@ -18,7 +18,6 @@ use Rattle.running.specs.declared.code.Next.{Next}
 use Rattle.running.specs.declared.code.Next.TheVariants.{On as NextOn, Lost as NextLost, Done as NextDone}
 use Rattle.running.specs.declared.passes.Pass.{Pass}
 use Rattle.running.proofs.Leading.{finding}
-use Rattle.bounded.specs.declared.bounded.Laid as laid
 use Rattle.treiber_stack.specs.declared.call_parts.giving.Chain.{Chain}
 use Rattle.treiber_stack.specs.declared.call_parts.giving.Give.{Give}
 use Rattle.treiber_stack.specs.declared.call_parts.giving.Give.TheVariants.{Load, Link, Exchange}
@@ -27,7 +26,7 @@ use Rattle.treiber_stack.specs.Giving.{AreNodes, give_line, GaveTo}
 
 module _ {T : Type 0} where
   -- a pass at a line makes its step on a list
-  pub ready_step : {P : Type 0} {g : laid.Ghosts P T (Line T) (Operation T)} (c : Stack T P g) (o : Operation T) (p : Pass T (Line T)) (l : Line T) (slots : List (ℕ × Slot T)) (list : ℕ) (kind : Kind) → IsAt c o p l slots → list_step l ≡ some (list, kind) → AtStep (machine_of c) lists o p.seat.me.0 list kind
+  pub ready_step : (c : Stack T) (o : Operation T) (p : Pass T (Line T)) (l : Line T) (slots : List (ℕ × Slot T)) (list : ℕ) (kind : Kind) → IsAt c o p l slots → list_step l ≡ some (list, kind) → AtStep (machine_of c) lists o p.seat.me.0 list kind
   ready_step c o p l slots list kind at e = record { begun = begun_of c p; line = l; going = at.at.going; step = e }
 
   pub busy_giving : (giving : Giving T) (at : Give) → is_idle (give_line giving at) ≡ false
@@ -41,7 +40,7 @@ within inside a (NextOn at) = NextOn (inside at)
 within inside a (NextLost at) = NextLost (inside at)
 within inside a (NextDone x) = NextDone a
 
-module _ {T P S A : Type 0} {g : laid.Ghosts P T (Line T) (Operation T)} (c : Stack T P g) (y : Account T (Line T) (Operation T) S A) (giving : Giving T) (inside : Give → S) (a : A) (s : S)
+module _ {T S A : Type 0} (c : Stack T) (y : Account T (Line T) (Operation T) S A) (giving : Giving T) (inside : Give → S) (a : A) (s : S)
     (same : (at : Give) → y.operation (inside at) ≡ y.operation s) (is : (at : Give) → give_line giving at ≡ y.line (inside at)) (hand : (at : Give) → vacant giving.chain ≡ y.slots (inside at)) (knows : (at : Give) → y.knows (inside at)) (answers : ends giving.answer ≡ y.answer (y.operation s) a)
     (at : Give) (r : Outcome) (has : List (ℕ × Slot T)) where
   abbrev led : ℕ → List (ℕ × Slot T) → Line T
@@ -71,7 +70,7 @@ one_node n i nodes e low = record {
 }
 
 -- a slot in hand has another value: the pass is where it was
-pub moved : {T P : Type 0} {g : laid.Ghosts P T (Line T) (Operation T)} (c : Stack T P g) (o : Operation T) (p q : Pass T (Line T)) (l : Line T) (had has : List (ℕ × Slot T)) → IsAt c o p l had → q.seat.table_id ≡ p.seat.table_id → q.seat.me ≡ (p.seat.me.0, has) → IsAt c o q l has × (begun_of c q ≡ begun_of c p)
+pub moved : {T : Type 0} (c : Stack T) (o : Operation T) (p q : Pass T (Line T)) (l : Line T) (had has : List (ℕ × Slot T)) → IsAt c o p l had → q.seat.table_id ≡ p.seat.table_id → q.seat.me ≡ (p.seat.me.0, has) → IsAt c o q l has × (begun_of c q ≡ begun_of c p)
 moved c o p q l had has at table me =
     let view : q.seat.me.0 ≡ p.seat.me.0 = ap (λ x. x.0) me in (
       record {

@@ -17,3 +17,4 @@ pub mod RangeTook
 pub mod Filling
 pub mod Restoring
 pub mod FastPath
+pub mod Every

@@ -6,9 +6,6 @@ use Rattle.stack_table.specs.Lines.{names, next}
 use Rattle.running.specs.Code.{Finding, Leads}
 use Rattle.running.specs.declared.access.Outcome.{Outcome}
 use Rattle.running.specs.declared.code.Next.{Next}
-use Rattle.bounded.specs.declared.bounded.Laid as laid
-use Rattle.stack_table.specs.declared.operation.Operation.{Operation}
-use Rattle.stack_machine.specs.declared.lines.Line.{Line}
 use Rattle.treiber_stack.specs.Putting.{Answer, put_account, put_line, put_slots, refusing}
 use Rattle.treiber_stack.specs.Stack.{Stack, room_of, limit_of, machine_of}
 use Rattle.treiber_stack.specs.declared.call_parts.giving.Give.{Give}
@@ -17,7 +14,7 @@ use Rattle.treiber_stack.specs.declared.calls.putting.PutAt.TheVariants.{GiveBac
 use Rattle.treiber_stack.specs.Giving.{GaveTo}
 use Rattle.treiber_stack.proofs.Gives.{within, gave_within}
 
-module _ {T P : Type 0} {g : laid.Ghosts P T (Line T) (Operation T)} (c : Stack T P g) where
+module _ {T : Type 0} (c : Stack T) where
   -- where the code of a put goes on
   abbrev pub LeadingPut : PutAt T → Outcome → List (ℕ × Slot T) → Next (PutAt T) (Answer T) → Type 0
   LeadingPut s r has to = Finding (machine_of c).core (put_line s) r (put_slots s) has

@@ -25,7 +25,6 @@ use Rattle.stack_machine.proofs.Made.{made_refusal}
 use Rattle.stack_table.specs.Lines.{call_of}
 use Rattle.stack_table.specs.declared.operation.Operation.{Operation}
 use Rattle.running.specs.Going.{Ended}
-use Rattle.bounded.specs.declared.bounded.Laid as laid
 use Rattle.running.specs.declared.passes.Pass as runs
 use Rattle.treiber_stack.specs.declared.bulk.range_steps.Held.{Held}
 use Rattle.treiber_stack.specs.declared.bulk.range_steps.RangeEnd.TheVariants.{Barred as IsBarred}
@@ -63,7 +62,7 @@ module _ {T : Type 0} where
   all_in (v ∷ vs) zero h e = absurd (let l : suc (length vs) ≡ 0 = ap length e in omega (arith, l))
   all_in (v ∷ vs) (suc k) h e = ap suc (all_in vs k (omega arith) e)
 
-module _ {T P : Type 0} {g : laid.Ghosts P T (Line T) (Operation T)} (c : Stack T P g) (o : Operation T) {v : View T (Line T)} {begun : PassView T} where
+module _ {T : Type 0} (c : Stack T) (o : Operation T) {v : View T (Line T)} {begun : PassView T} where
   -- a refused put has given back what it took
   backs_out : (why : PutRefused (List T)) → Ended (machine_of c) o v begun (ends (AnswerPut (Err why))) → BacksOut begun (pass_of v) (length (handed_back why))
   backs_out why e =
@@ -121,7 +120,7 @@ module _ {T P : Type 0} {g : laid.Ghosts P T (Line T) (Operation T)} (c : Stack 
       }
 
 -- a put of a range has answered, and was run as one call
-module _ {T P : Type 0} {g : laid.Ghosts P T (Line T) (Operation T)} (c : Stack T P g) (o : Operation T) (begun : PassView T) (p : Pass T) (vs : List T) (is : IsRange o vs) where
+module _ {T : Type 0} (c : Stack T) (o : Operation T) (begun : PassView T) (p : Pass T) (vs : List T) (is : IsRange o vs) where
   abbrev RanTo : Result Ranged RangeRefused → Type 0
   RanTo r = RangeAnswers vs r begun (pass_in p) × WasRange c begun vs r p
 
@@ -139,7 +138,7 @@ module _ {T P : Type 0} {g : laid.Ghosts P T (Line T) (Operation T)} (c : Stack 
   was_barred (BarredSpent t) e = (e.answered, (o, is, e.ran refl))
 
 -- a range whose values go back
-pub is_refused : {T P : Type 0} {g : laid.Ghosts P T (Line T) (Operation T)} (c : Stack T P g) (o : Operation T) (v : PassView T) (p : runs.Pass T (Line T)) (vs : List T) (held : Held) (why : Barred) → IsOver c o v p vs held (IsBarred why) → IsRefused c o p vs held why
+pub is_refused : {T : Type 0} (c : Stack T) (o : Operation T) (v : PassView T) (p : runs.Pass T (Line T)) (vs : List T) (held : Held) (why : Barred) → IsOver c o v p vs held (IsBarred why) → IsRefused c o p vs held why
 is_refused c o v p vs held why over = record { chain = over.chain; has = over.has; some_node = over.ends.0; at = over.ends.1.0 }
 
 -- a refusal of a range that is not empty

@@ -24,7 +24,6 @@ use Rattle.running.specs.declared.code.Next.{Next}
 use Rattle.running.specs.declared.code.Next.TheVariants.{On, Done}
 use Rattle.running.specs.declared.passes.Pass.{Pass}
 use Rattle.running.proofs.Going.{now_going}
-use Rattle.bounded.specs.declared.bounded.Laid as laid
 use Rattle.treiber_stack.specs.declared.call_parts.begun.Begun.{Begun}
 use Rattle.treiber_stack.specs.declared.bulk.range_steps.Held.{Held}
 use Rattle.treiber_stack.specs.declared.bulk.range_steps.Range.{Range}
@@ -44,7 +43,7 @@ use Rattle.treiber_stack.specs.Stack.{Stack, room_of, limit_of, machine_of, IsAt
 use Rattle.treiber_stack.proofs.Gives.{within, gave_within}
 use Rattle.treiber_stack.proofs.Refusals.{free_null, free_spent}
 
-module _ {T P : Type 0} {g : laid.Ghosts P T (Line T) (Operation T)} (c : Stack T P g) (o : Operation T) where
+module _ {T : Type 0} (c : Stack T) (o : Operation T) where
   -- a range that has stopped
   pub stopped : (begun : PassView T) (q : Pass T (Line T)) (r : RangeStopped T) (b : Bool) → StopsAt (machine_of c) (range_account c.table.shared.key) c.table.shared.table_id b o begun q r → Stopped c o begun q (stop_line r) (stop_hand r) b
   stopped begun q r true s = s
@@ -86,7 +85,7 @@ module _ {T : Type 0} where
   finds_none limit w x put NoneFree is null = ap (λ (k : ℕ). at_load_free limit put (fields_of k)) (sym is) ∙ free_null limit w put null
   finds_none limit w x put (Spent t) is high = ap (λ (k : ℕ). at_load_free limit put (fields_of k)) (sym is) ∙ free_spent limit w put t high.2 high.0 high.1
 
-module _ {T P : Type 0} {g : laid.Ghosts P T (Line T) (Operation T)} (c : Stack T P g) where
+module _ {T : Type 0} (c : Stack T) where
   -- the ends of a chain that is not empty
   pub are_nodes : (vs : List T) (chain : List ℕ) (held : Held) → HasNodes c vs chain held → 0 < held.count → AreNodes (room_of c) chain held.chain
   are_nodes vs chain held has some_node =

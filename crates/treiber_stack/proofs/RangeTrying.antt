@@ -15,7 +15,6 @@ use Rattle.running.specs.Steps.{Ran, Stops}
 use Rattle.running.specs.declared.code.Next.TheVariants.{On}
 use Rattle.running.specs.declared.passes.Pass.{Pass}
 use Rattle.stack_table.specs.declared.operation.Operation.{Operation}
-use Rattle.bounded.specs.declared.bounded.Laid as laid
 use Rattle.treiber_stack.specs.declared.call_parts.begun.Begun.{Begun}
 use Rattle.treiber_stack.specs.declared.call_parts.giving.Give.{Give}
 use Rattle.treiber_stack.specs.declared.call_parts.giving.Give.TheVariants as give
@@ -66,7 +65,7 @@ module _ {T : Type 0} (vs : List T) (chain : List ℕ) where
   given (barred.Spent t) (give.Exchange w) = refl
 
   -- the put of a state
-  put_of : {P : Type 0} {g : laid.Ghosts P T (Line T) (Operation T)} (c : Stack T P g) (nodes : Held) (at : RangeAt) → HasNodes c vs chain nodes → HasRead c (putting vs chain) nodes at → put_at (range_line (putting vs chain) at) ≡ putting vs chain
+  put_of : (c : Stack T) (nodes : Held) (at : RangeAt) → HasNodes c vs chain nodes → HasRead c (putting vs chain) nodes at → put_at (range_line (putting vs chain) at) ≡ putting vs chain
   put_of c nodes Refuse has read = ap (putting vs) (sym (none_of chain (has.counted ∙ read)))
   put_of c nodes (GiveBack why at) has read = given why at
   put_of c nodes at has read = refl
@@ -81,7 +80,7 @@ length_places {T} k vs few =
     let some : length (map Some (drop k vs)) ≡ length (drop k vs) = length_some (drop k vs) in
     omega (arith, few, some, length-append (replicate k None) (map Some (drop k vs)), length-replicate {A = Slot T} k None, length-drop k vs)
 
-module _ {T P : Type 0} {g : laid.Ghosts P T (Line T) (Operation T)} (c : Stack T P g) where
+module _ {T : Type 0} (c : Stack T) where
   some_room : 0 < room_of c
   some_room = let some = c.table.shared.key.capacity_in_range in omega arith
 
@@ -123,7 +122,7 @@ module _ {T P : Type 0} {g : laid.Ghosts P T (Line T) (Operation T)} (c : Stack 
       read_on nodes' (GiveBack why g) r tells = let t = told_back (room_of c) nodes.count at why (tells (Over (GaveBack why)) refl) in (back_nodes at t read, λ e. absurd (false≢true e), sym t)
 
 -- where a range goes on that has a node more
-module _ {T P : Type 0} {g : laid.Ghosts P T (Line T) (Operation T)} (c : Stack T P g) (o : Operation T) (vs : List T) (is : IsRange o vs) (q : Pass T (Line T)) (nodes : Held) (f : IsFilling c o q vs nodes) (places : List (Slot T)) (are : places ≡ places_from nodes.count vs) where
+module _ {T : Type 0} (c : Stack T) (o : Operation T) (vs : List T) (is : IsRange o vs) (q : Pass T (Line T)) (nodes : Held) (f : IsFilling c o q vs nodes) (places : List (Slot T)) (are : places ≡ places_from nodes.count vs) where
   long : length places ≡ length vs
   long = ap length are ∙ length_places nodes.count vs f.has.few
 
@@ -138,7 +137,7 @@ module _ {T P : Type 0} {g : laid.Ghosts P T (Line T) (Operation T)} (c : Stack 
       let l = long in
       record { of = is; at = record { chain = f.chain; has = f.has; is = wants_top c o vs q nodes f some_node (omega (arith, l, high)); wants = λ e. absurd (false≢true e) }; places_are = are }
 
-module _ {T P : Type 0} {g : laid.Ghosts P T (Line T) (Operation T)} (c : Stack T P g) (o : Operation T) (p : Pass T (Line T)) (vs : List T) (nodes : Held) (at : RangeAt) where
+module _ {T : Type 0} (c : Stack T) (o : Operation T) (p : Pass T (Line T)) (vs : List T) (nodes : Held) (at : RangeAt) where
   -- some steps that are begun at a state
   module _ (b : Begun T) (of : b.operation.value ≡ o) (whose : b.pass.value ≡ p) (is : IsRangeOf c o p vs nodes at) where
     abbrev from : Range T

@@ -40,7 +40,6 @@ use Rattle.running.specs.declared.passes.Pass.{Pass}
 use Rattle.treiber_stack.specs.declared.call_parts.giving.Give.TheVariants.{Load}
 use Rattle.treiber_stack.specs.declared.bulk.range_steps.Held.{Held}
 use Rattle.treiber_stack.specs.declared.call_parts.refusing.Barred.{Barred}
-use Rattle.bounded.specs.declared.bounded.Laid as laid
 use Rattle.treiber_stack.specs.Giving.{IsGiving}
 use Rattle.treiber_stack.specs.Ranging.{places_from, putting, refused, IsRefused, IsRestoring, ReadsAgain}
 use Rattle.treiber_stack.specs.Refusing.{barring}
@@ -72,7 +71,7 @@ unfolding pred_of
 pred_is zero h = absurd (omega arith)
 pred_is (suc k) h = refl
 
-module _ {T P : Type 0} {g : laid.Ghosts P T (Line T) (Operation T)} (c : Stack T P g) where
+module _ {T : Type 0} (c : Stack T) where
   -- the link that was read
   pub read_so : (v : View T (Line T)) (at found i : ℕ) → at ≡ link_at i → Peeked (machine_of c) v at found → (giving : Giving T) (before others : List ℕ) (next : ℕ) → line_in names v ≡ LoadFreeToGive giving → giving.chain ≡ before ++ i ∷ next ∷ others → index_of found ≡ next
   read_so v at found i e peeked giving before others next line parts =
@@ -136,7 +135,7 @@ module _ {T P : Type 0} {g : laid.Ghosts P T (Line T) (Operation T)} (c : Stack 
           answers = looked.2 ∙ g.answers;
         }
 
-module _ {T P : Type 0} {g : laid.Ghosts P T (Line T) (Operation T)} (c : Stack T P g) (o : Operation T) (vs : List T) (nodes : Held) (why : Barred) where
+module _ {T : Type 0} (c : Stack T) (o : Operation T) (vs : List T) (nodes : Held) (why : Barred) where
   abbrev back : List ℕ → Giving T
   back chain = refused (putting vs chain) why
 

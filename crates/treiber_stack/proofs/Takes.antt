@@ -5,9 +5,6 @@ use Rattle.stack_table.specs.Lines.{names, next}
 use Rattle.running.specs.Code.{Finding, Leads}
 use Rattle.running.specs.declared.access.Outcome.{Outcome}
 use Rattle.running.specs.declared.code.Next.{Next}
-use Rattle.bounded.specs.declared.bounded.Laid as laid
-use Rattle.stack_table.specs.declared.operation.Operation.{Operation}
-use Rattle.stack_machine.specs.declared.lines.Line.{Line}
 use Rattle.treiber_stack.specs.declared.call_parts.giving.Give.{Give}
 use Rattle.treiber_stack.specs.declared.calls.taking.TakeAt.{TakeAt}
 use Rattle.treiber_stack.specs.declared.calls.taking.TakeAt.TheVariants.{GiveBack}
@@ -27,7 +24,7 @@ module _ {T : Type 0} where
   same_value zs us vs i j x y e f = sym (ap (value_or x) e) ∙ ap (value_or x) f
 
 -- where the code of a take goes on
-module _ {T P : Type 0} {g : laid.Ghosts P T (Line T) (Operation T)} (c : Stack T P g) where
+module _ {T : Type 0} (c : Stack T) where
   abbrev pub Leading : TakeAt T → Outcome → List (ℕ × Slot T) → Next (TakeAt T) (Answer T) → Type 0
   Leading s r has to = Finding (machine_of c).core (take_line s) r (take_slots s) has
       (λ found came. Leads names (take_account c.table.shared.key) s (next (room_of c) (limit_of c) (take_line s) found came) has to)

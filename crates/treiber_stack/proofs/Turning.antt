@@ -25,9 +25,6 @@ use Rattle.stack_table.proofs.Slots.{length_in_order, numbers_full, values_full}
 use Rattle.running.specs.Tables.{values as slot_values}
 use Rattle.running.specs.declared.access.Outcome.{Outcome}
 use Rattle.running.specs.declared.code.Next.TheVariants.{On}
-use Rattle.bounded.specs.declared.bounded.Laid as laid
-use Rattle.stack_table.specs.declared.operation.Operation.{Operation}
-use Rattle.stack_machine.specs.declared.lines.Line.{Line}
 use Rattle.treiber_stack.specs.declared.bulk.folding.Batch.{Batch}
 use Rattle.treiber_stack.specs.declared.bulk.folding.Walk.{Walk}
 use Rattle.treiber_stack.specs.declared.bulk.folding.FoldAt.TheVariants.{TakeAll, LoadToTurn, TurnLink, LoadToFold}
@@ -46,7 +43,7 @@ hand_in_order n Up chain values h = record {
   as_many = length-reverse chain ∙ h.as_many ∙ sym (length-reverse values);
 }
 
-module _ {T P : Type 0} {g : laid.Ghosts P T (Line T) (Operation T)} (c : Stack T P g) where
+module _ {T : Type 0} (c : Stack T) where
   abbrev n : ℕ
   n = room_of c
 

@@ -12,9 +12,6 @@ use Rattle.stack_table.specs.Slots.{Links, full, vacant}
 use Rattle.stack_table.proofs.Slots.{vacant_append}
 use Rattle.running.specs.declared.access.Outcome.{Outcome}
 use Rattle.running.specs.declared.code.Next.TheVariants.{Done}
-use Rattle.bounded.specs.declared.bounded.Laid as laid
-use Rattle.stack_table.specs.declared.operation.Operation.{Operation}
-use Rattle.stack_machine.specs.declared.lines.Line.{Line}
 use Rattle.treiber_stack.specs.declared.bulk.folding.Batch.{Batch}
 use Rattle.treiber_stack.specs.declared.bulk.folding.Walk.{Walk}
 use Rattle.treiber_stack.specs.declared.bulk.folding.FoldAt.TheVariants.{LoadToFold, GiveBack}
@@ -82,7 +79,7 @@ walk_start n b walk others batch parts start none held =
     }
 
 -- the value of the node that it has come to moves out, and the slot goes behind the others
-module _ {T P : Type 0} {g : laid.Ghosts P T (Line T) (Operation T)} (c : Stack T P g) (b : Batch T) (walk : Walk T) (W : IsWalking (room_of c) b walk) (r : Outcome) (had has : List (ℕ × Slot T)) (x : T) (value : had ≡ (walk.index, Some x) ∷ rest had) (out : has ≡ rest had ++ (walk.index, None) ∷ []) (kept : had ≡ walk.held.value.me.1)
+module _ {T : Type 0} (c : Stack T) (b : Batch T) (walk : Walk T) (W : IsWalking (room_of c) b walk) (r : Outcome) (had has : List (ℕ × Slot T)) (x : T) (value : had ≡ (walk.index, Some x) ∷ rest had) (out : has ≡ rest had ++ (walk.index, None) ∷ []) (kept : had ≡ walk.held.value.me.1)
     (says : (r.word ≤ NULL) × Links (nodes_of b) walk.index r.word) where
   abbrev n : ℕ
   n = room_of c

@@ -5,15 +5,12 @@ use Rattle.bounded_model.specs.declared.bulk.Ranged.{Ranged}
 use Rattle.bounded_model.specs.declared.bulk.RangeRefused.{RangeRefused}
 use Rattle.bounded_model.specs.declared.views.PassView.{PassView}
 use Rattle.bounded_model.specs.Stepping.{MatchStepped}
-use Rattle.stack_machine.specs.declared.lines.Line.{Line}
 use Rattle.running.specs.Passes as passes
-use Rattle.stack_table.specs.declared.operation.Operation.{Operation}
-use Rattle.bounded.specs.declared.bounded.Laid as laid
 use Rattle.treiber_stack.specs.Ranging.{PutsOf}
 use Rattle.treiber_stack.specs.RangeTrying.{IsRanging, RangeOp, gives_back, places_at}
 use Rattle.treiber_stack.specs.Stack.{Pass, Stack, pass_in, begun_of}
 
-module _ {T P : Type 0} {g : laid.Ghosts P T (Line T) (Operation T)} (c : Stack T P g) (vs : List T) where
+module _ {T : Type 0} (c : Stack T) (vs : List T) where
   -- a put of these values is under way. If it had places, the values in nodes would have left theirs; once it
   -- gives nodes back, all would be there
   abbrev pub IsCopying : RangeOp T → Type 0

@@ -12,7 +12,6 @@ use Rattle.stack_table.specs.declared.operation.Operation.{Operation}
 use Rattle.treiber_stack.specs.declared.bulk.folding.FoldAt.{FoldAt}
 use Rattle.treiber_stack.specs.declared.bulk.fold_op.FoldMade.{FoldMade}
 use Rattle.treiber_stack.specs.declared.bulk.fold_op.FoldMade.TheVariants.{Again, Value, Done}
-use Rattle.bounded.specs.declared.bounded.Laid as laid
 use Rattle.treiber_stack.specs.Folding.{front_of, gone, fold_account}
 use Rattle.running.specs.Passes as passes
 use Rattle.treiber_stack.specs.Stack.{Stack, machine_of, shape_of, pass_in, begun_of, IsPassOf}
@@ -26,7 +25,7 @@ FoldSteps n v (Again op) = (passes.pass_in op.pass).steps ≡ v.steps + n
 FoldSteps n v (Value x op) = (passes.pass_in op.pass).steps ≤ v.steps + n
 FoldSteps n v (Done back answer) = (pass_in back).steps ≤ v.steps + n
 
-module _ {T P : Type 0} {g : laid.Ghosts P T (Line T) (Operation T)} (c : Stack T P g) (front : Front) where
+module _ {T : Type 0} (c : Stack T) (front : Front) where
   -- it goes from this end, and has handed out these values, in this order
   pub record IsFolding (values : List T) (op : FoldOp T) : Type 0 where
     pub under_way : IsUnderWay (machine_of c) (fold_account c.table.shared.key) c.table.shared.table_id op

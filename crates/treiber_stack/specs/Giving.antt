@@ -13,7 +13,6 @@ use Rattle.stack_table.specs.Slots.{vacant}
 use Rattle.running.specs.Code.{Finding, MatchNext}
 use Rattle.running.specs.declared.access.Outcome.{Outcome}
 use Rattle.running.specs.declared.code.Next.{Next}
-use Rattle.bounded.specs.declared.bounded.Laid as laid
 use Rattle.treiber_stack.specs.declared.call_parts.giving.Chain.{Chain}
 use Rattle.treiber_stack.specs.declared.call_parts.giving.Give.{Give}
 use Rattle.treiber_stack.specs.declared.call_parts.giving.Give.TheVariants.{Load, Link, Exchange}
@@ -33,13 +32,13 @@ module _ {T : Type 0} where
   give_line giving (Link w) = LinkToFree giving (fields_of w)
   give_line giving (Exchange w) = GiveBack giving (fields_of w)
 
-module _ {T P : Type 0} {g : laid.Ghosts P T (Line T) (Operation T)} where
-  pub record IsGiving (c : Stack T P g) (o : Operation T) (p : Pass T (Line T)) (giving : Giving T) (nodes : Chain) (at : Give) : Type 0 where
+module _ {T : Type 0} where
+  pub record IsGiving (c : Stack T) (o : Operation T) (p : Pass T (Line T)) (giving : Giving T) (nodes : Chain) (at : Give) : Type 0 where
     pub line : IsAt c o p (give_line giving at) (vacant giving.chain)
     pub are : AreNodes (room_of c) giving.chain nodes
 
   -- where a step leads that came to r, with these slots in hand after it
-  abbrev pub GaveTo : Stack T P g → Giving T → Give → Outcome → List (ℕ × Slot T) → Next Give (Unit {0}) → Type 0
+  abbrev pub GaveTo : Stack T → Giving T → Give → Outcome → List (ℕ × Slot T) → Next Give (Unit {0}) → Type 0
   GaveTo c giving at r has to = Finding (machine_of c).core (give_line giving at) r (vacant giving.chain) has
       (λ found came. MatchNext to
       (λ at'. (next (room_of c) (limit_of c) (give_line giving at) found came ≡ give_line giving at') × (has ≡ vacant giving.chain))

@@ -1,4 +1,4 @@
--- What the answers of the calls say: the laws of the program.
+-- What the answers of the calls say: the laws of each.
 use Rattle.std.proofs.Common.{◌≡◌, ℕ, ◌≤◌, Bool, List, [], ◌∷◌, length, true, false, refl, sym, ap, ◌∙◌, subst, append-nil}
 use Rattle.std.specs.Prelude.{Result, Ok, Err}
 use Rattle.tagged_index.specs.declared.limit.Limits.{Limits}
@@ -27,17 +27,11 @@ use Rattle.stack_table.specs.declared.operation.Operation.{Operation}
 use Rattle.stack_table.specs.declared.operation.Operation.TheVariants.{Take as TakeFirst, Close as CloseFirst, Shut as ShutFirst, Look as LookFirst}
 use Rattle.stack_table.specs.Lines.{answered, call_of}
 use Rattle.running.specs.Going.{Ended}
-use Rattle.treiber_stack.specs.Calls.{is_call, put_of}
-use Rattle.treiber_stack.specs.Closing.{mark_account, mark_name, sets}
-use Rattle.treiber_stack.specs.declared.calls.closing.Mark.{Mark}
-use Rattle.treiber_stack.specs.declared.calls.closing.Mark.TheVariants as mark
-use Rattle.treiber_stack.specs.declared.calls.closing.MarkAt.{MarkAt}
-use Rattle.treiber_stack.specs.declared.calls.looking.LookAt.{LookAt}
-use Rattle.treiber_stack.specs.declared.calls.putting.PutAt.{PutAt}
-use Rattle.treiber_stack.specs.declared.calls.taking.TakeAt.{TakeAt}
+use Rattle.treiber_stack.specs.Calls.{is_call}
+use Rattle.treiber_stack.specs.Closing.{mark_account}
 use Rattle.treiber_stack.specs.Limits.{machine_at, shape_at}
 use Rattle.treiber_stack.specs.Looking.{look_account}
-use Rattle.treiber_stack.specs.Putting.{Answer as PutAnswer, put_account, put_answer, put_value}
+use Rattle.treiber_stack.specs.Putting.{Answer as PutAnswer, put_account, put_answer}
 use Rattle.treiber_stack.specs.Stack.{Answered}
 use Rattle.treiber_stack.specs.Taking.{Answer as TakeAnswer, take_account}
 
@@ -136,34 +130,31 @@ module _ {T : Type 0} (k : Limits) (o : Operation T) (v : View T (Line T)) (begu
       → LookGives (shape_at k) begun (pass_of v) a.reply × Answers begun (pass_of v) (LookAnswered a.reply)
   look_gives a is e = (looked a.reply (subst (λ (o : Operation T). Ended (machine_at k) o v begun ((look_account k).answer o a)) is e), e.answered)
 
--- and what each operation promises. A put promises it of each value that it is a put of, and no operation but a close or a shut sets a mark
+-- and what each operation promises of the call that it makes
 module _ {T : Type 0} (k : Limits) where
-  abbrev pub put_promises : Operation T → PassView T → PassView T → PutAnswer T → Type 0
-  put_promises o begun now a = (x : T) → is_call (PutCall x) o → PutGives (shape_at k) begun x now a.reply × Answers begun now (put_answered a.reply)
+  abbrev pub put_promises : Operation T → PassView T → PassView T → Result ℕ (PutRefused T) → Type 0
+  put_promises o begun now r = (x : T) → is_call (PutCall x) o → PutGives (shape_at k) begun x now r × Answers begun now (put_answered r)
 
-  abbrev pub take_promises : Operation T → PassView T → PassView T → TakeAnswer T → Type 0
-  take_promises o begun now a = TakeGives (shape_at k) begun now a.reply × Answers begun now (TakeAnswered a.reply)
+  abbrev pub take_promises : Operation T → PassView T → PassView T → Result (T × ℕ) TakeRefused → Type 0
+  take_promises o begun now r = is_call TakeCall o → TakeGives (shape_at k) begun now r × Answers begun now (TakeAnswered r)
 
-  abbrev pub mark_promises : Operation T → PassView T → PassView T → Answered Bool → Type 0
-  mark_promises CloseFirst begun now a = CloseGives (shape_at k) begun now a.reply × Answers begun now (CloseAnswered a.reply)
-  mark_promises ShutFirst begun now a = ShutGives (shape_at k) begun now a.reply × Answers begun now (ShutAnswered a.reply)
-  mark_promises o begun now a = ⊥
+  -- a mark is set by a close or a shut
+  pub record mark_promises (o : Operation T) (begun now : PassView T) (r : Bool) : Type 0 where
+    pub closes : is_call CloseCall o → CloseGives (shape_at k) begun now r × Answers begun now (CloseAnswered r)
+    pub shuts : is_call ShutCall o → ShutGives (shape_at k) begun now r × Answers begun now (ShutAnswered r)
 
-  abbrev pub look_promises : Operation T → PassView T → PassView T → Answered Bool → Type 0
-  look_promises o begun now a = LookGives (shape_at k) begun now a.reply × Answers begun now (LookAnswered a.reply)
+  abbrev pub look_promises : Operation T → PassView T → PassView T → Bool → Type 0
+  look_promises o begun now r = is_call LookCall o → LookGives (shape_at k) begun now r × Answers begun now (LookAnswered r)
 
-  pub put_keeps : (at : PutAt T) (v : View T (Line T)) (begun : PassView T) (a : PutAnswer T) → Ended (machine_at k) (put_of (put_value at)) v begun ((put_account k).answer (put_of (put_value at)) a) → put_promises (put_of (put_value at)) begun (pass_of v) a
-  put_keeps at v begun a e x is = put_gives k (put_of (put_value at)) v begun x a is e
+  module _ (o : Operation T) (v : View T (Line T)) (begun : PassView T) where
+    pub put_given : (a : PutAnswer T) → Ended (machine_at k) o v begun ((put_account k).answer o a) → put_promises o begun (pass_of v) a.reply
+    put_given a e x is = put_gives k o v begun x a is e
 
-  pub take_keeps : (at : TakeAt T) (v : View T (Line T)) (begun : PassView T) (a : TakeAnswer T) → Ended (machine_at k) TakeFirst v begun ((take_account k).answer TakeFirst a) → take_promises TakeFirst begun (pass_of v) a
-  take_keeps at v begun a e = take_gives k TakeFirst v begun a refl e
+    pub take_given : (a : TakeAnswer T) → Ended (machine_at k) o v begun ((take_account k).answer o a) → take_promises o begun (pass_of v) a.reply
+    take_given a e is = take_gives k o v begun a is e
 
-  mark_so : (mark : Mark) (v : View T (Line T)) (begun : PassView T) (a : Answered Bool) → Ended (machine_at k) (mark_name mark) v begun ((mark_account k).answer (mark_name mark) a) → mark_promises (mark_name mark) begun (pass_of v) a
-  mark_so mark.Closed v begun a e = close_gives k CloseFirst v begun a refl e
-  mark_so mark.Shut v begun a e = shut_gives k ShutFirst v begun a refl e
+    pub mark_given : (a : Answered Bool) → Ended (machine_at k) o v begun ((mark_account k).answer o a) → mark_promises o begun (pass_of v) a.reply
+    mark_given a e = record { closes = λ is. close_gives k o v begun a is e; shuts = λ is. shut_gives k o v begun a is e }
 
-  pub mark_keeps : (at : MarkAt) (v : View T (Line T)) (begun : PassView T) (a : Answered Bool) → Ended (machine_at k) (mark_name (sets at)) v begun ((mark_account k).answer (mark_name (sets at)) a) → mark_promises (mark_name (sets at)) begun (pass_of v) a
-  mark_keeps at v begun a e = mark_so (sets at) v begun a e
-
-  pub look_keeps : (at : LookAt) (v : View T (Line T)) (begun : PassView T) (a : Answered Bool) → Ended (machine_at k) LookFirst v begun ((look_account k).answer LookFirst a) → look_promises LookFirst begun (pass_of v) a
-  look_keeps at v begun a e = look_gives k LookFirst v begun a refl e
+    pub look_given : (a : Answered Bool) → Ended (machine_at k) o v begun ((look_account k).answer o a) → look_promises o begun (pass_of v) a.reply
+    look_given a e is = look_gives k o v begun a is e

@@ -5,6 +5,7 @@ pub mod Begun
 pub mod Refusing
 pub mod Giving
 pub mod Closing
+pub mod Every
 pub mod Left
 pub mod Looking
 pub mod Stepwise

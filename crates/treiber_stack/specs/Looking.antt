@@ -8,8 +8,7 @@ use Rattle.running.specs.Steps.{Ran}
 use Rattle.running.specs.declared.code.Next.{Next}
 use Rattle.running.specs.declared.op.Op.{Op}
 use Rattle.running.specs.declared.passes.Pass.{Pass}
-use Rattle.bounded.specs.Bounded.{Makes}
-use Rattle.bounded.specs.declared.bounded.Laid as laid
+use Rattle.running.specs.Kept.{Makes}
 use Rattle.stack_machine.specs.declared.lines.Answer.TheVariants.{Look as AnswerLook}
 use Rattle.stack_machine.specs.declared.lines.Line.{Line}
 use Rattle.stack_machine.specs.declared.lines.Line.TheVariants.{LoadTopToLook}
@@ -33,16 +32,16 @@ module _ {T : Type 0} where
   abbrev pub look_account : Limits → Account T (Line T) (Operation T) LookAt (Answered Bool)
   look_account k = to_answer (λ at. LookFirst) look_line (λ at. []) (λ at. Unit {0}) (λ o a. ends (AnswerLook a.reply))
 
-module _ {T P : Type 0} {g : laid.Ghosts P T (Line T) (Operation T)} where
-  abbrev pub IsLooking : Stack T P g → LookOp T → Type 0
+module _ {T : Type 0} where
+  abbrev pub IsLooking : Stack T → LookOp T → Type 0
   IsLooking c op = Makes (machine_of c) (look_account c.table.shared.key) c.table.shared.table_id (is_call LookCall) op
 
   -- what some steps of it give
-  abbrev pub LookRan : Stack T P g → Operation T → Pass T (Line T) → Pass T (Line T) → Next LookAt (Answered Bool) → Type 0
+  abbrev pub LookRan : Stack T → Operation T → Pass T (Line T) → Pass T (Line T) → Next LookAt (Answered Bool) → Type 0
   LookRan c o p q r = Ran (machine_of c) (look_account c.table.shared.key) c.table.shared.table_id o p q r
 
   -- its one step has answered so
-  pub record HasLooked (c : Stack T P g) (p q : Pass T (Line T)) (empty : Bool) : Type 0 where
+  pub record HasLooked (c : Stack T) (p q : Pass T (Line T)) (empty : Bool) : Type 0 where
     pub of : IsSeatOf c q
     pub ended : Ended (machine_of c) LookFirst q.seat.me.0 (begun_of c p) (ends (AnswerLook empty))
     pub line : OneLine c p q LoadTopToLook (ends (AnswerLook empty))

@@ -10,13 +10,8 @@ use Rattle.step_names.specs.declared.location.Location.{Location}
 use Rattle.step_names.specs.declared.location.Location.TheVariants as location
 use Rattle.step_names.specs.declared.step_name.StepName.{StepName}
 use Rattle.step_names.specs.Names.{IsNamed, Naming}
-use Rattle.tagged_index.specs.declared.limit.Limits.{Limits}
-use Rattle.bounded.specs.Naming as bounded
-use Rattle.treiber_stack.specs.Closing.{mark_account}
-use Rattle.treiber_stack.specs.Looking.{look_account}
-use Rattle.treiber_stack.specs.Putting.{put_account}
-use Rattle.treiber_stack.specs.declared.life.stack.AnyOp.{AnyOp}
-use Rattle.treiber_stack.specs.Taking.{take_account}
+use Rattle.treiber_stack.specs.Every.{every_line}
+use Rattle.treiber_stack.specs.Stepwise.{AnyOp}
 
 abbrev pub word_at : Top → Location
 word_at Free = location.Free
@@ -36,4 +31,4 @@ module _ {T : Type 0} where
 
   -- the next step of an operation has this name
   abbrev pub IsStep : AnyOp T → StepName → Type 0
-  IsStep op name = (key : Limits) → bounded.IsStep IsNextStep (put_account key).line (take_account key).line (mark_account key).line (mark_account key).line (look_account key).line op.call name
+  IsStep op name = IsNextStep (every_line op.at) name

@@ -21,8 +21,7 @@ use Rattle.running.specs.declared.code.Next.{Next}
 use Rattle.stack_table.specs.declared.operation.Operation.{Operation}
 use Rattle.stack_table.specs.Slots.{vacant}
 use Rattle.running.specs.declared.op.Op.{Op}
-use Rattle.bounded.specs.declared.bounded.Laid as laid
-use Rattle.bounded.specs.Bounded.{Makes}
+use Rattle.running.specs.Kept.{Makes}
 use Rattle.bounded_model.specs.declared.commands.Command.TheVariants.{Put as PutCall}
 use Rattle.treiber_stack.specs.Calls.{is_call, put_of}
 use Rattle.treiber_stack.specs.declared.calls.putting.PutAt.{PutAt}
@@ -106,15 +105,15 @@ module _ {T : Type 0} where
   abbrev pub put_account : Limits → Account T (Line T) (Operation T) (PutAt T) (Answer T)
   put_account k = to_answer (λ at. put_of (put_value at)) put_line put_slots (λ at. HasReadToPut (capacity_of k) (tag_limit_of k) at) (λ o a. ends (put_answer a.reply))
 
-module _ {T P : Type 0} {g : laid.Ghosts P T (Line T) (Operation T)} where
+module _ {T : Type 0} where
   -- a put of x, by its operation: the put of the value that the operation has is a put of x too
-  abbrev pub IsPutting : Stack T P g → T → PutOp T → Type 0
+  abbrev pub IsPutting : Stack T → T → PutOp T → Type 0
   IsPutting c x op = Makes (machine_of c) (put_account c.table.shared.key) c.table.shared.table_id (is_call (PutCall x)) op
 
   -- a whole call of this operation is at this
-  abbrev pub PutStands : Stack T P g → Operation T → Pass T (Line T) → PutAt T → Type 0
+  abbrev pub PutStands : Stack T → Operation T → Pass T (Line T) → PutAt T → Type 0
   PutStands c o p at = (o ≡ put_of (put_value at)) × Stands (machine_of c) (put_account c.table.shared.key) c.table.shared.table_id p at
 
   -- what some steps of it give
-  abbrev pub PutRan : Stack T P g → Operation T → Pass T (Line T) → Pass T (Line T) → Next (PutAt T) (Answer T) → Type 0
+  abbrev pub PutRan : Stack T → Operation T → Pass T (Line T) → Pass T (Line T) → Next (PutAt T) (Answer T) → Type 0
   PutRan c o p q r = Ran (machine_of c) (put_account c.table.shared.key) c.table.shared.table_id o p q r

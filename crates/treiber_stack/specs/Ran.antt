@@ -13,25 +13,23 @@ use Rattle.index_list.specs.declared.front.Front.{Front}
 use Rattle.stack_machine.specs.declared.lines.Answer.{Answer}
 use Rattle.stack_machine.specs.declared.lines.Answer.TheVariants.{Fold, Put}
 use Rattle.stack_machine.specs.declared.lines.Call.TheVariants.{Put as CallPut}
-use Rattle.stack_machine.specs.declared.lines.Line.{Line}
 use Rattle.stack_machine.specs.Machine.{ends}
 use Rattle.stack_machine.specs.Deeds.{in_order}
 use Rattle.stack_table.specs.declared.operation.Operation.{Operation}
 use Rattle.stack_table.specs.Lines.{answered, call_of, direction}
 use Rattle.running.specs.Going.{HasRun}
-use Rattle.bounded.specs.declared.bounded.Laid as laid
 use Rattle.treiber_stack.specs.Stack.{Pass, Stack, machine_of, pass_in}
 
-module _ {T P : Type 0} {g : laid.Ghosts P T (Line T) (Operation T)} (c : Stack T P g) (o : Operation T) (begun : PassView T) (back : Pass T) where
+module _ {T : Type 0} (c : Stack T) (o : Operation T) (begun : PassView T) (back : Pass T) where
   -- A call of this operation was begun once, when its pass was `begun`. The machine's steps of that pass since then, each an act of its
   -- own, led the operation from its first line to this answer. The pass's count is that of its acts
   abbrev pub WasRun : Answer T → Type 0
   WasRun answer = HasRun (machine_of c) o back.pass.seat.me.0 begun (ends answer)
 
-  -- the same of a fold, whose machine answers with the values that it took
-  abbrev pub WasFolded : Result Folded TakeRefused → Type 0
-  WasFolded (Ok folded) = (values : List T) × WasRun (Fold (Ok (values, folded.number)))
-  WasFolded (Err why) = WasRun (Fold (Err why))
+  -- the same of a fold, whose machine answers with the values of its take, in the order in which it folded them
+  abbrev pub WasFolded : Front → Result Folded TakeRefused → Type 0
+  WasFolded front (Ok folded) = (values : List T) × FoldGives begun (pass_in back) values folded.number × WasRun (Fold (Ok (in_order (direction front) values, folded.number)))
+  WasFolded front (Err why) = WasRun (Fold (Err why))
 
 -- A fold's pass, which was v and is w, keeps one answer more. That is the refusal, or the values of the fold's take in the order in which
 -- it folded them
@@ -58,5 +56,5 @@ abbrev pub RangeAnswers : {T : Type 0} → List T → Result Ranged RangeRefused
 RangeAnswers vs r v w = MatchCall vs r (w ≡ v) (λ a. Answers v w (answered a))
 
 -- and the machine has run, as one call
-abbrev pub WasRange : {T P : Type 0} {g : laid.Ghosts P T (Line T) (Operation T)} → Stack T P g → PassView T → List T → Result Ranged RangeRefused → Pass T → Type 0
+abbrev pub WasRange : {T : Type 0} → Stack T → PassView T → List T → Result Ranged RangeRefused → Pass T → Type 0
 WasRange {T} c begun vs r back = MatchCall vs r (pass_in back ≡ begun) (λ a. (o : Operation T) × IsRange o vs × WasRun c o begun back a)

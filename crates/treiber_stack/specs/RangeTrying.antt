@@ -10,7 +10,6 @@ use Rattle.running.specs.declared.op.Op.{Op}
 use Rattle.running.specs.Passes as passes
 use Rattle.running.specs.declared.passes.Pass as runs
 use Rattle.stack_table.specs.declared.operation.Operation.{Operation}
-use Rattle.bounded.specs.declared.bounded.Laid as laid
 use Rattle.treiber_stack.specs.declared.bulk.range_steps.Held.{Held}
 use Rattle.treiber_stack.specs.declared.bulk.range_steps.RangeAt.{RangeAt}
 use Rattle.treiber_stack.specs.declared.bulk.range_steps.RangeAt.TheVariants.{GiveBack}
@@ -63,7 +62,7 @@ module _ {T : Type 0} where
       × (more ≡ 0 → (passes.pass_in next.pass).steps ≡ (passes.pass_in op.pass).steps + n))
       (λ back answer. RangeEnds n op back answer)
 
-module _ {T P : Type 0} {g : laid.Ghosts P T (Line T) (Operation T)} (c : Stack T P g) (o : Operation T) where
+module _ {T : Type 0} (c : Stack T) (o : Operation T) where
   -- a range of these values is at this; if it takes a node, there is a value for it
   pub record IsRangeOf (p : runs.Pass T (Line T)) (vs : List T) (held : Held) (at : RangeAt) : Type 0 where
     pub chain : List ℕ
@@ -82,7 +81,7 @@ module _ {T P : Type 0} {g : laid.Ghosts P T (Line T) (Operation T)} (c : Stack 
   abbrev pub RanOn : runs.Pass T (Line T) → List T → Held → RangeAt → runs.Pass T (Line T) → RangeAt → Type 0
   RanOn p vs held at q at' = IsRangeOf q vs held at' × (begun_of c q ≡ begun_of c p) × (gives_back at' ≡ gives_back at)
 
-module _ {T P : Type 0} {g : laid.Ghosts P T (Line T) (Operation T)} (c : Stack T P g) where
+module _ {T : Type 0} (c : Stack T) where
   -- a put of these values is under way, and its places are these
   pub record IsRanging (vs : List T) (places : List (Slot T)) (op : RangeOp T) : Type 0 where
     pub of : IsRange op.operation vs

@@ -32,7 +32,6 @@ use Rattle.running.specs.declared.passes.Pass as runs
 use Rattle.stack_table.specs.declared.operation.Operation.{Operation}
 use Rattle.stack_table.specs.Lines.{names}
 use Rattle.stack_table.specs.Slots.{full, vacant}
-use Rattle.bounded.specs.declared.bounded.Laid as laid
 use Rattle.treiber_stack.specs.declared.call_parts.giving.Give.TheVariants.{Load as LoadToGive}
 use Rattle.treiber_stack.specs.declared.bulk.range_steps.Held.{Held}
 use Rattle.treiber_stack.specs.declared.bulk.range_steps.Range.{Range}
@@ -97,7 +96,7 @@ module _ {T : Type 0} where
     pub begins : first chain ≡ held.chain.first
     pub ends : last chain ≡ held.chain.last
 
-  abbrev pub HasNodes : {P : Type 0} {g : laid.Ghosts P T (Line T) (Operation T)} → Stack T P g → List T → List ℕ → Held → Type 0
+  abbrev pub HasNodes : Stack T → List T → List ℕ → Held → Type 0
   HasNodes c vs chain held = HasNodesBelow (room_of c) vs chain held
 
   -- the machine's line of a state, its slots in hand, and what is known of what it has read and holds
@@ -126,7 +125,7 @@ module _ {T : Type 0} where
   HasReadFor n limit put held Refuse = held.count ≡ 0
   HasReadFor n limit put held (GiveBack why at) = AreNodes n put.chain held.chain
 
-  abbrev pub HasRead : {P : Type 0} {g : laid.Ghosts P T (Line T) (Operation T)} → Stack T P g → Putting T → Held → RangeAt → Type 0
+  abbrev pub HasRead : Stack T → Putting T → Held → RangeAt → Type 0
   HasRead c put held at = HasReadFor (room_of c) (limit_of c) put held at
 
   -- and where it stops
@@ -162,7 +161,7 @@ module _ {T : Type 0} where
   abbrev pub stop_hand : RangeStopped T → List (ℕ × Slot T)
   stop_hand r = range_hand (put_begun r.begun) r.stop
 
-  abbrev pub StopTold : {P : Type 0} {g : laid.Ghosts P T (Line T) (Operation T)} → Stack T P g → Range T → RangeStopped T → Type 0
+  abbrev pub StopTold : Stack T → Range T → RangeStopped T → Type 0
   StopTold c s r = (r.begun ≡ s.begun) × Told (room_of c) s.held.count s.at r.stop
 
   -- how it is read
@@ -178,7 +177,7 @@ module _ {T : Type 0} where
   }
 
   -- a range is at this
-  pub record IsRangeAt {P : Type 0} {g : laid.Ghosts P T (Line T) (Operation T)} (c : Stack T P g) (o : Operation T) (p : runs.Pass T (Line T)) (put : Putting T) (held : Held) (at : RangeAt) : Type 0 where
+  pub record IsRangeAt (c : Stack T) (o : Operation T) (p : runs.Pass T (Line T)) (put : Putting T) (held : Held) (at : RangeAt) : Type 0 where
     pub line : IsAt c o p (range_line put at) (range_slots put at)
     pub read : HasRead c put held at
 
@@ -187,20 +186,20 @@ module _ {T : Type 0} where
   linking [] put = next_node put
   linking (j ∷ js) put = LinkTaken put
 
-  pub record TakesNode {P : Type 0} {g : laid.Ghosts P T (Line T) (Operation T)} (c : Stack T P g) (o : Operation T) (begun : PassView T) (put : Putting T) (q : runs.Pass T (Line T)) (i : ℕ) : Type 0 where
+  pub record TakesNode (c : Stack T) (o : Operation T) (begun : PassView T) (put : Putting T) (q : runs.Pass T (Line T)) (i : ℕ) : Type 0 where
     pub at : IsAt c o q (linking put.chain (with_node put i)) ((i, None) ∷ loaded put)
     pub low : i < room_of c
     pub begun_is : begun_of c q ≡ begun
 
   -- it has stopped at this line, by whether its machine has answered
-  abbrev pub Stopped : {P : Type 0} {g : laid.Ghosts P T (Line T) (Operation T)} → Stack T P g → Operation T → PassView T → runs.Pass T (Line T) → Line T → List (ℕ × Slot T) → Bool → Type 0
+  abbrev pub Stopped : Stack T → Operation T → PassView T → runs.Pass T (Line T) → Line T → List (ℕ × Slot T) → Bool → Type 0
   Stopped c o begun q l rest true = IsSeatOf c q × Ended (machine_of c) o q.seat.me.0 begun l
   Stopped c o begun q l rest false = IsAt c o q l rest × (begun_of c q ≡ begun)
 
-  abbrev pub StopsSo : {P : Type 0} {g : laid.Ghosts P T (Line T) (Operation T)} → Stack T P g → Operation T → PassView T → runs.Pass T (Line T) → Putting T → Held → RangeAt → RangeStop → Type 0
+  abbrev pub StopsSo : Stack T → Operation T → PassView T → runs.Pass T (Line T) → Putting T → Held → RangeAt → RangeStop → Type 0
   StopsSo c o begun q put held at stop = Told (room_of c) held.count at stop × Stopped c o begun q (range_stop put stop) (range_hand put stop) (is_idle (range_stop put stop))
 
-  abbrev pub EndsSo : {P : Type 0} {g : laid.Ghosts P T (Line T) (Operation T)} → Stack T P g → Operation T → PassView T → runs.Pass T (Line T) → Putting T → Held → RangeEnd → Type 0
+  abbrev pub EndsSo : Stack T → Operation T → PassView T → runs.Pass T (Line T) → Putting T → Held → RangeEnd → Type 0
   EndsSo c o begun q put held end = ToldEnd held.count end × Stopped c o begun q (end_line put end) (loaded put) (is_idle (end_line put end))
 
   -- the places once the first k values have left
@@ -221,40 +220,40 @@ module _ {T : Type 0} where
   putting vs chain = record { values = vs; chain = chain }
 
   -- the put continues with the next value, or with the top
-  pub record IsFilling {P : Type 0} {g : laid.Ghosts P T (Line T) (Operation T)} (c : Stack T P g) (o : Operation T) (p : runs.Pass T (Line T)) (vs : List T) (held : Held) : Type 0 where
+  pub record IsFilling (c : Stack T) (o : Operation T) (p : runs.Pass T (Line T)) (vs : List T) (held : Held) : Type 0 where
     pub chain : List ℕ
     pub has : HasNodes c vs chain held
     pub at : IsAt c o p (next_node (putting vs chain)) (loaded (putting vs chain))
 
   -- a node was taken for the next value
-  pub record HasTaken {P : Type 0} {g : laid.Ghosts P T (Line T) (Operation T)} (c : Stack T P g) (o : Operation T) (p : runs.Pass T (Line T)) (vs : List T) (held : Held) (i : ℕ) : Type 0 where
+  pub record HasTaken (c : Stack T) (o : Operation T) (p : runs.Pass T (Line T)) (vs : List T) (held : Held) (i : ℕ) : Type 0 where
     pub chain : List ℕ
     pub has : HasNodes c vs chain held
     pub takes : TakesNode c o (begun_of c p) (putting vs chain) p i
 
   -- it has the value, whose place is empty; the link to the node before it is a step
-  abbrev pub FillsOne : {P : Type 0} {g : laid.Ghosts P T (Line T) (Operation T)} → Stack T P g → Operation T → runs.Pass T (Line T) → List T → Held → Slot T → runs.Pass T (Line T) → Held → Type 0
+  abbrev pub FillsOne : Stack T → Operation T → runs.Pass T (Line T) → List T → Held → Slot T → runs.Pass T (Line T) → Held → Type 0
   FillsOne c o p vs held place q more = IsFilling c o q vs more × (more.count ≡ held.count + 1) × (begun_of c q ≡ begun_of c p) × (place ≡ None) × ((passes.pass_in q).steps ≤ (passes.pass_in p).steps + 1)
 
   -- a range is over, with nodes for the first values
-  pub record IsOver {P : Type 0} {g : laid.Ghosts P T (Line T) (Operation T)} (c : Stack T P g) (o : Operation T) (v : PassView T) (p : runs.Pass T (Line T)) (vs : List T) (held : Held) (end : RangeEnd) : Type 0 where
+  pub record IsOver (c : Stack T) (o : Operation T) (v : PassView T) (p : runs.Pass T (Line T)) (vs : List T) (held : Held) (end : RangeEnd) : Type 0 where
     pub chain : List ℕ
     pub has : HasNodes c vs chain held
     pub ends : EndsSo c o v p (putting vs chain) held end
 
   -- a range of these values, begun as the pass was v, has ended
-  abbrev pub PutsOf : {P : Type 0} {g : laid.Ghosts P T (Line T) (Operation T)} → Stack T P g → PassView T → List T → List (Slot T) → Pass T → Result Ranged RangeRefused → Type 0
+  abbrev pub PutsOf : Stack T → PassView T → List T → List (Slot T) → Pass T → Result Ranged RangeRefused → Type 0
   PutsOf c v vs places q r = IsPassOf c q × PutsRange (record { shape = shape_of c; from = v; to = pass_in q }) (map Some vs) places r × RangeAnswers vs r v (pass_in q) × WasRange c v vs r q
 
   -- a refused range whose values are still in the slots
-  pub record IsRefused {P : Type 0} {g : laid.Ghosts P T (Line T) (Operation T)} (c : Stack T P g) (o : Operation T) (p : runs.Pass T (Line T)) (vs : List T) (held : Held) (why : Barred) : Type 0 where
+  pub record IsRefused (c : Stack T) (o : Operation T) (p : runs.Pass T (Line T)) (vs : List T) (held : Held) (why : Barred) : Type 0 where
     pub chain : List ℕ
     pub has : HasNodes c vs chain held
     pub some_node : 0 < held.count
     pub at : IsAt c o p (LoadFreeToGive (refused (putting vs chain) why)) (loaded (putting vs chain))
 
   -- the values of a refused range go back to their places, the last first
-  pub record IsRestoring {P : Type 0} {g : laid.Ghosts P T (Line T) (Operation T)} (c : Stack T P g) (o : Operation T) (p : runs.Pass T (Line T)) (vs : List T) (held : Held) (why : Barred) (moved index : ℕ) : Type 0 where
+  pub record IsRestoring (c : Stack T) (o : Operation T) (p : runs.Pass T (Line T)) (vs : List T) (held : Held) (why : Barred) (moved index : ℕ) : Type 0 where
     pub chain : List ℕ
     pub has : HasNodes c vs chain held
     pub done : List ℕ
@@ -265,7 +264,7 @@ module _ {T : Type 0} where
     pub at : IsAt c o p (LoadFreeToGive (refused (putting vs chain) why)) (full left (reverse (take (length left) vs)) ++ vacant done)
 
   -- they are all back, and the emptied nodes are to be given back
-  pub record Restores {P : Type 0} {g : laid.Ghosts P T (Line T) (Operation T)} (c : Stack T P g) (o : Operation T) (p : runs.Pass T (Line T)) (vs : List T) (held : Held) (why : Barred) (places : List (Slot T)) (q : runs.Pass T (Line T)) : Type 0 where
+  pub record Restores (c : Stack T) (o : Operation T) (p : runs.Pass T (Line T)) (vs : List T) (held : Held) (why : Barred) (places : List (Slot T)) (q : runs.Pass T (Line T)) : Type 0 where
     pub chain : List ℕ
     pub has : HasNodes c vs chain held
     pub back : IsGiving c o q (refused (putting vs chain) why) held.chain LoadToGive

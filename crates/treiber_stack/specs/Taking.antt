@@ -20,8 +20,7 @@ use Rattle.stack_table.specs.declared.operation.Operation.TheVariants.{Take as T
 use Rattle.stack_table.specs.Slots.{vacant}
 use Rattle.treiber_stack.specs.declared.calls.taking.Taken.{Taken}
 use Rattle.running.specs.declared.op.Op.{Op}
-use Rattle.bounded.specs.declared.bounded.Laid as laid
-use Rattle.bounded.specs.Bounded.{Makes}
+use Rattle.running.specs.Kept.{Makes}
 use Rattle.bounded_model.specs.declared.commands.Command.TheVariants.{Take as TakeCall}
 use Rattle.treiber_stack.specs.Calls.{is_call}
 use Rattle.treiber_stack.specs.declared.calls.taking.TakeAt.{TakeAt}
@@ -63,14 +62,14 @@ module _ {T : Type 0} where
   abbrev pub take_account : Limits → Account T (Line T) (Operation T) (TakeAt T) (Answer T)
   take_account k = to_answer (λ at. TakeFirst) take_line take_slots (λ at. HasReadToTake (capacity_of k) (tag_limit_of k) at) (λ o a. ends (AnswerTake a.reply))
 
-module _ {T P : Type 0} {g : laid.Ghosts P T (Line T) (Operation T)} where
+module _ {T : Type 0} where
   -- a whole call is at this
-  abbrev pub TakeStands : Stack T P g → Pass T (Line T) → TakeAt T → Type 0
+  abbrev pub TakeStands : Stack T → Pass T (Line T) → TakeAt T → Type 0
   TakeStands c p at = Stands (machine_of c) (take_account c.table.shared.key) c.table.shared.table_id p at
 
-  abbrev pub IsTaking : Stack T P g → TakeOp T → Type 0
+  abbrev pub IsTaking : Stack T → TakeOp T → Type 0
   IsTaking c op = Makes (machine_of c) (take_account c.table.shared.key) c.table.shared.table_id (is_call TakeCall) op
 
   -- what some steps of it give
-  abbrev pub TakeRan : Stack T P g → Operation T → Pass T (Line T) → Pass T (Line T) → Next (TakeAt T) (Answer T) → Type 0
+  abbrev pub TakeRan : Stack T → Operation T → Pass T (Line T) → Pass T (Line T) → Next (TakeAt T) (Answer T) → Type 0
   TakeRan c o p q r = Ran (machine_of c) (take_account c.table.shared.key) c.table.shared.table_id o p q r

@@ -1,6 +1,7 @@
 //! The calls of a stack: the states of each, and its steps.
 
 pub(crate) mod closing;
+pub(crate) mod every;
 pub(crate) mod gauging;
 pub(crate) mod looking;
 pub(crate) mod putting;

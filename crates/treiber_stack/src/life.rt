@@ -2,5 +2,6 @@
 
 pub(crate) mod ending;
 pub(crate) mod making;
+pub(crate) mod passes;
 pub(crate) mod rest;
 pub(crate) mod stack;

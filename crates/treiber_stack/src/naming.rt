@@ -11,16 +11,12 @@ ghost use Rattle.treiber_stack.specs.Taking.{take_line};
 
 use crate::call_parts::giving::Give;
 use crate::calls::closing::MarkAt;
+use crate::calls::every::{AnyOp, StackAt};
 use crate::calls::looking::LookAt;
 use crate::calls::putting::PutAt;
 use crate::calls::taking::TakeAt;
-use crate::life::stack::{AnyOp, Stack};
-use crate::rule::Stacked;
-use bounded::NamesSteps;
-use bounded_model::Operation as AnyCall;
-use stack_machine::Line;
-use stack_table::Operation;
-use step_names::{Location, StepName};
+use crate::life::stack::Stack;
+use step_names::{Location, Named, StepName};
 
 // The next step of giving back a chain that ends with this node.
 fn give_step<T>(last: u32, at: &Give) -> StepName
@@ -81,18 +77,17 @@ fn look_name<T>(at: &LookAt) -> StepName
     }
 }
 
-impl<T: Drop + Send> NamesSteps<Stack<T>, T, Line<T>, Operation<T>, Stacked, 2> for Stacked {
+impl<T: Drop + Send> Named<T> for Stack<T> {
     ghost use Rattle.treiber_stack.specs.Naming.{IsStep};
 
     ghost is_step = { IsStep };
 
     fn step_name(op: &AnyOp<T>) -> StepName {
-        match &op.call {
-            AnyCall::Put(op) => put_name::<T>(&op.at),
-            AnyCall::Take(op) => take_name::<T>(&op.at),
-            AnyCall::Close(op) => mark_name::<T>(&op.at),
-            AnyCall::Shut(op) => mark_name::<T>(&op.at),
-            AnyCall::Look(op) => look_name::<T>(&op.at),
+        match &op.at {
+            StackAt::Put(at) => put_name::<T>(at),
+            StackAt::Take(at) => take_name::<T>(at),
+            StackAt::Mark(at) => mark_name::<T>(at),
+            StackAt::Look(at) => look_name::<T>(at),
         }
     }
 }

@@ -1,5 +1,4 @@
 //! The stack's machine.
-use bounded::Laid;
 use running::{ListMachine, Machine};
 use stack_machine::Line;
 use stack_table::Operation;
@@ -43,16 +42,4 @@ impl<T> ListMachine<T, Line<T>, Operation<T>, 2> for Stacked {
     }
 
     ghost laws = { λ limits. list_laws T (capacity_of limits) (tag_limit_of limits) };
-}
-
-impl<T> Laid<T, Line<T>, Operation<T>> for Stacked {
-    ghost use Rattle.bounded_model.specs.declared.container.TheConstants.{MAX_PASSES};
-    ghost use Rattle.stack_table.specs.Layout.{words_for};
-    ghost use Rattle.tagged_index.specs.Limits.{capacity_of};
-
-    ghost words_for = { λ limits. words_for (capacity_of limits) };
-
-    ghost slots_for = { λ limits. capacity_of limits };
-
-    ghost passes_for = { λ limits. MAX_PASSES };
 }

@@ -6,8 +6,15 @@ use Rattle.bounded_model.specs.declared.views.RootView.{RootView}
 use Rattle.bounded_model.specs.Machine.{Shape}
 use Rattle.bounded_model.specs.Laws.{PutGives, TakeGives, Splits}
 use Rattle.bounded_model.specs.Consumes.{TakesEach, Folds}
+use Rattle.waiting.specs.Answering.{PutAnswers, TakeAnswers, AnswersEach}
 use Rattle.waiting.specs.Waits.{PutsEach, PutsFront}
 use Rattle.waiting.specs.Passes.{SplitsEach}
+
+-- Answers
+
+AnswersEach_more : {A T : Type 0} (Gives : A → PassView T → PassView T → Type 0) (v : PassView T) (xs : List A) (u w : PassView T) (x : A) → AnswersEach Gives v xs u → Gives x u w → AnswersEach Gives v (xs ++ x ∷ []) w
+AnswersEach_more Gives v [] u w x each last = (w, rw each last, refl)
+AnswersEach_more Gives v (y ∷ ys) u w x each last = (each.0, each.1, AnswersEach_more Gives each.0 ys u w x each.2 last)
 
 -- Puts
 
@@ -23,21 +30,23 @@ Yields_more gives s (y ∷ ys) t u x given last = (given.0, given.1, Yields_more
 pub record Front {T I : Type 0} (c : Shape) (v u : PassView T) (gives : I → Option T → I → Type 0) (s t : I) : Type 0 where
   pub put : List (T × ℕ)
   pub puts : PutsEach c v put u
+  pub answered : AnswersEach (λ x. PutAnswers x.0 (Ok x.1)) v put u
   pub given : Yields gives s (map (λ x. x.0) put) t
 
 pub Front-none : {T I : Type 0} (c : Shape) (v : PassView T) (gives : I → Option T → I → Type 0) (s : I) → Front c v v gives s s
-Front-none c v gives s = record { put = []; puts = refl; given = refl }
+Front-none c v gives s = record { put = []; puts = refl; answered = refl; given = refl }
 
 module _ {T I : Type 0} (c : Shape) {v : PassView T} {gives : I → Option T → I → Type 0} {s : I} where
-  pub Front-more : {u w : PassView T} {t r : I} {x : T} {n : ℕ} → Front c v u gives s t → gives t (Some x) r → PutGives c u x w (Ok n) → Front c v w gives s r
-  Front-more {u} {w} {t} {r} {x} {n} front given put = record {
+  pub Front-more : {u w : PassView T} {t r : I} {x : T} {n : ℕ} → Front c v u gives s t → gives t (Some x) r → PutGives c u x w (Ok n) → PutAnswers x (Ok n) u w → Front c v w gives s r
+  Front-more {u} {w} {t} {r} {x} {n} front given put answered = record {
     put = front.put ++ (x, n) ∷ [];
     puts = PutsEach_more c v front.put u w (x, n) front.puts put;
+    answered = AnswersEach_more (λ x. PutAnswers x.0 (Ok x.1)) v front.put u w (x, n) front.answered answered;
     given = Yields_more gives s front.put t r (x, n) front.given given;
   }
 
   pub Front-then : {u : PassView T} {t r : I} (next : Option T) → Front c v u gives s t → gives t next r → PutsFront c v u gives s next r
-  Front-then {u} {t} {r} next front given = record { put = front.put; puts = front.puts; given = (t, front.given, given) }
+  Front-then {u} {t} {r} next front given = record { put = front.put; puts = front.puts; answered = front.answered; given = (t, front.given, given) }
 
 -- Takes
 
@@ -53,16 +62,18 @@ Folds_more Gives s (y ∷ ys) r t x folds last = (folds.0, folds.1, Folds_more G
 pub record Taken {T S : Type 0} (c : Shape) (Gives : S → T × ℕ → S → Type 0) (v : PassView T) (s : S) (w : PassView T) (t : S) : Type 0 where
   pub taken : List (T × ℕ)
   pub takes : TakesEach c v taken w
+  pub answered : AnswersEach (λ x. TakeAnswers (Ok x)) v taken w
   pub folds : Folds Gives s taken t
 
 pub Taken-none : {T S : Type 0} (c : Shape) (Gives : S → T × ℕ → S → Type 0) (v : PassView T) (s : S) → Taken c Gives v s v s
-Taken-none c Gives v s = record { taken = []; takes = refl; folds = refl }
+Taken-none c Gives v s = record { taken = []; takes = refl; answered = refl; folds = refl }
 
 pub Taken-more : {T S : Type 0} {c : Shape} {Gives : S → T × ℕ → S → Type 0} {v : PassView T} {s : S} {u : PassView T} {r : S} {x : T × ℕ} {w : PassView T} {t : S}
-    → Taken c Gives v s u r → TakeGives c u w (Ok x) → Gives r x t → Taken c Gives v s w t
-Taken-more {T} {S} {c} {Gives} {v} {s} {u} {r} {x} {w} {t} before take fold = record {
+    → Taken c Gives v s u r → TakeGives c u w (Ok x) → TakeAnswers (Ok x) u w → Gives r x t → Taken c Gives v s w t
+Taken-more {T} {S} {c} {Gives} {v} {s} {u} {r} {x} {w} {t} before take answered fold = record {
   taken = before.taken ++ x ∷ [];
   takes = TakesEach_more c v before.taken u w x before.takes take;
+  answered = AnswersEach_more (λ x. TakeAnswers (Ok x)) v before.taken u w x before.answered answered;
   folds = Folds_more Gives s before.taken r t x before.folds fold;
 }
 

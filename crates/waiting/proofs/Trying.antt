@@ -1,16 +1,18 @@
 -- A call after tries that did nothing is the same call from before them.
-use Rattle.std.proofs.Common.{◌≡◌, ℕ, ◌≤◌, List, [], ◌∷◌, ◌++◌, refl, sym, ap, ◌∙◌, subst, arith, append-nil, append_assoc, Result, Ok, Err}
+use Rattle.std.proofs.Common.{◌≡◌, ℕ, ◌≤◌, List, [], ◌∷◌, ◌++◌, replicate, zero, suc, refl, sym, ap, ◌∙◌, subst, arith, append-nil, append_assoc, Result, Ok, Err}
 use Rattle.bounded_model.specs.declared.history.Event.{Event}
 use Rattle.bounded_model.specs.declared.history.Event.TheVariants.{Hold, Put, Take, Free}
 use Rattle.bounded_model.specs.declared.answers.PutRefused.{PutRefused}
 use Rattle.bounded_model.specs.declared.answers.PutRefused.TheVariants.{Full, Closed, Spent}
 use Rattle.bounded_model.specs.declared.answers.TakeRefused.{TakeRefused}
+use Rattle.bounded_model.specs.declared.views.Answered.{Answered}
 use Rattle.bounded_model.specs.declared.views.PassView.{PassView}
 use Rattle.bounded_model.specs.Machine.{Shape}
 use Rattle.bounded_model.specs.Histories.{own, Later}
 use Rattle.bounded_model.specs.Justified.{Answer, PutFull, PutClosed, PutSpent, Justified, take_answer}
-use Rattle.bounded_model.specs.Laws.{Adds, BacksOut, gave_back, PutGives, TakeGives}
+use Rattle.bounded_model.specs.Laws.{Answers, Adds, BacksOut, gave_back, PutGives, TakeGives}
 use Rattle.bounded_model.proofs.Histories.{own-append, Later-trans}
+use Rattle.waiting.specs.Answering.{AnswersLast}
 
 -- the pass has done nothing, in some tries or in none
 pub record Tried {T : Type 0} (v u : PassView T) : Type 0 where
@@ -69,3 +71,18 @@ module _ {T : Type 0} where
   pub take_after : (c : Shape) {v u : PassView T} (w : PassView T) (r : Result (T × ℕ) TakeRefused) → Tried v u → TakeGives c u w r → TakeGives c v w r
   take_after c {v} {u} w (Ok taken) t g = subst (λ k. Adds v w (Free k 1 ∷ Take k taken.0 taken.1 ∷ [])) t.number (Adds-after t g)
   take_after c {v} {u} w (Err why) t g = (Adds-after t g.0, Justified-after c w (take_answer why) t g.1)
+
+-- and each of them has answered this
+pub record Refused {T : Type 0} (again : Answered T) (v u : PassView T) : Type 0 where
+  pub tries : ℕ
+  pub answers : u.answers ≡ replicate tries again ++ v.answers
+
+module _ {T : Type 0} {again : Answered T} where
+  pub Refused-none : (v : PassView T) → Refused again v v
+  Refused-none v = record { tries = zero; answers = refl }
+
+  pub Refused-more : {v u w : PassView T} → Refused again v u → Answers u w again → Refused again v w
+  Refused-more {v} {u} {w} before more = record { tries = suc before.tries; answers = more ∙ ap (λ l. again ∷ l) before.answers }
+
+  pub Refused-last : {last : Answered T} {v u w : PassView T} → Refused again v u → Answers u w last → AnswersLast again last v w
+  Refused-last {last} {v} {u} {w} before more = record { tries = before.tries; answers = more ∙ ap (λ l. last ∷ l) before.answers }

@@ -1,2 +1,3 @@
+pub mod Answering
 pub mod Waits
 pub mod Passes

@@ -9,6 +9,7 @@ use Rattle.bounded_model.specs.declared.views.PassView.{PassView}
 use Rattle.bounded_model.specs.Machine.{Shape}
 use Rattle.bounded_model.specs.Laws.{Call, PutGives, TakeGives}
 use Rattle.bounded_model.specs.Consumes.{TakesEach}
+use Rattle.waiting.specs.Answering.{PutAnswers, TakeAnswers, AnswersEach}
 use Rattle.waiting.specs.declared.stopped.PutStopped.{PutStopped}
 use Rattle.waiting.specs.declared.stopped.PutStopped.TheVariants.{Closed, Spent}
 use Rattle.waiting.specs.declared.stopped.TakeStopped.{TakeStopped}
@@ -32,10 +33,11 @@ abbrev pub PutsEach : {T : Type 0} → Shape → PassView T → List (T × ℕ) 
 PutsEach c v [] w = v ≡ w
 PutsEach {T} c v (x ∷ xs) w = (u : PassView T) × PutGives c v x.0 u (Ok x.1) × PutsEach c u xs w
 
--- what an iterator gave from its first state on was put, up to w, and then it gave `next`
+-- what an iterator gave from its first state on was put, up to w, and then it gave `next`; and what the pass has answered
 pub record PutsFront {T I : Type 0} (c : Shape) (v w : PassView T) (gives : I → Option T → I → Type 0) (values : I) (next : Option T) (rest : I) : Type 0 where
   pub put : List (T × ℕ)
   pub puts : PutsEach c v put w
+  pub answered : AnswersEach (λ x. PutAnswers x.0 (Ok x.1)) v put w
   pub given : YieldsThen gives values (map (λ x. x.0) put) next rest
 
 -- all values were put; or all before one, that one was refused for good, and the iterator continues after it
@@ -43,7 +45,7 @@ abbrev pub PutsAll : {T I : Type 0} → Call T → (I → Option T → I → Typ
 PutsAll {T} {I} k gives values (Ok _) = (end : I) × PutsFront k.shape k.from k.to gives values None end
 PutsAll {T} {I} k gives values (Err unsent) =
     (x : T) × (w : PassView T) × PutsFront k.shape k.from w gives values (Some x) unsent.rest
-    × PutGives k.shape w x k.to (Err (refused_put unsent.first))
+    × PutGives k.shape w x k.to (Err (refused_put unsent.first)) × PutAnswers x (Err (refused_put unsent.first)) w k.to
 
 -- Takes
 
@@ -59,10 +61,12 @@ take_answered (Ok r) = Ok r
 take_answered (Err why) = Err (refused_take why)
 
 -- some values were taken one after another until a take was refused for good, and the fold did with them and their
--- numbers, in the order of taking, what `folds` says
+-- numbers, in the order of taking, what `folds` says; and what the pass has answered
 pub record TakesAll {T : Type 0} (call : Call T) (folds : List (T × ℕ) → Type 0) (why : TakeRefused) : Type 0 where
   pub taken : List (T × ℕ)
   pub last : PassView T
   pub takes : TakesEach call.shape call.from taken last
+  pub answered : AnswersEach (λ x. TakeAnswers (Ok x)) call.from taken last
   pub folded : folds taken
   pub refused : TakeGives call.shape last call.to (Err why)
+  pub refusal : TakeAnswers (Err why) last call.to

@@ -1,6 +1,7 @@
 //! Puts that wait while the container is full.
 
 ghost use Rattle.bounded_model.specs.Laws.{PutGives};
+ghost use Rattle.waiting.specs.Answering.{PutAnswers};
 ghost use Rattle.waiting.specs.Waits.{put_answered, PutsAll};
 
 use crate::pause::wait_a_little;
@@ -25,6 +26,7 @@ pub fn put_waiting<T, C: Shared<T>, W: Wait>(
     ensures of { C.is_pass c.now result.0 }
     ensures gives { PutGives (C.shape c.now) (C.pass by) value
         (C.pass result.0) (put_answered result.1) }
+    ensures answered { PutAnswers value (put_answered result.1) (C.pass by) (C.pass result.0) }
 {
     put_waiting_with(c, rt, by, value, || {})
 }
@@ -43,6 +45,7 @@ pub fn put_waiting_with<T, C: Shared<T>, W: Wait, F: FnMut() + Drop>(
     ensures of { C.is_pass c.now result.0 }
     ensures gives { PutGives (C.shape c.now) (C.pass by) value
         (C.pass result.0) (put_answered result.1) }
+    ensures answered { PutAnswers value (put_answered result.1) (C.pass by) (C.pass result.0) }
 {
     let mut before = before;
     let mut pass = by;

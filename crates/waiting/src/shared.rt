@@ -2,7 +2,12 @@
 
 ghost use Rattle.bounded_model.specs.declared.views.PassView.{PassView};
 ghost use Rattle.bounded_model.specs.Machine.{Shape};
-ghost use Rattle.bounded_model.specs.Laws.{PutGives, TakeGives, CloseGives, ShutGives};
+ghost use Rattle.bounded_model.specs.declared.views.Answered.TheVariants.{
+  Take as TakeAnswered,
+  Close as CloseAnswered,
+  Shut as ShutAnswered,
+};
+ghost use Rattle.bounded_model.specs.Laws.{Answers, PutGives, TakeGives, CloseGives, ShutGives, put_answered};
 
 use bounded_model::{Container, PutRefused, TakeRefused};
 use std::sync::Wait;
@@ -33,25 +38,29 @@ pub trait Shared<T>: Drop {
     ) -> (Self::Pass, Result<u64, PutRefused<T>>)
         requires { is_pass self.now by }
         ensures of { is_pass self.now result.0 }
-        ensures gives { PutGives (shape self.now) (pass by) value (pass result.0) result.1 };
+        ensures gives { PutGives (shape self.now) (pass by) value (pass result.0) result.1 }
+        ensures answered { Answers (pass by) (pass result.0) (put_answered result.1) };
 
     /// The container's `take`.
     fn take<W: Wait>(&self, rt: &W, by: Self::Pass) -> (Self::Pass, Result<(T, u64), TakeRefused>)
         requires { is_pass self.now by }
         ensures of { is_pass self.now result.0 }
-        ensures gives { TakeGives (shape self.now) (pass by) (pass result.0) result.1 };
+        ensures gives { TakeGives (shape self.now) (pass by) (pass result.0) result.1 }
+        ensures answered { Answers (pass by) (pass result.0) (TakeAnswered result.1) };
 
     /// The container's `close`.
     fn close<W: Wait>(&self, rt: &W, by: Self::Pass) -> (Self::Pass, bool)
         requires { is_pass self.now by }
         ensures of { is_pass self.now result.0 }
-        ensures gives { CloseGives (shape self.now) (pass by) (pass result.0) result.1 };
+        ensures gives { CloseGives (shape self.now) (pass by) (pass result.0) result.1 }
+        ensures answered { Answers (pass by) (pass result.0) (CloseAnswered result.1) };
 
     /// The container's `shut`.
     fn shut<W: Wait>(&self, rt: &W, by: Self::Pass) -> (Self::Pass, bool)
         requires { is_pass self.now by }
         ensures of { is_pass self.now result.0 }
-        ensures gives { ShutGives (shape self.now) (pass by) (pass result.0) result.1 };
+        ensures gives { ShutGives (shape self.now) (pass by) (pass result.0) result.1 }
+        ensures answered { Answers (pass by) (pass result.0) (ShutAnswered result.1) };
 }
 
 impl<T, C: Container<T>> Shared<T> for C {

@@ -4,6 +4,7 @@ ghost use Rattle.std.specs.Prelude.{◌≡◌, MatchOption};
 ghost use Rattle.bounded_model.specs.declared.answers.TakeRefused.TheVariants.{Empty};
 ghost use Rattle.bounded_model.specs.Laws.{TakeGives};
 ghost use Rattle.bounded_model.specs.Consumes.{Folds};
+ghost use Rattle.waiting.specs.Answering.{TakeAnswers};
 ghost use Rattle.waiting.specs.Waits.{take_answered, refused_take, TakesAll};
 
 use crate::pause::wait_a_little;
@@ -39,6 +40,7 @@ pub fn take_waiting<T, C: Shared<T>, W: Wait>(
     ensures of { C.is_pass c.now result.0 }
     ensures gives { TakeGives (C.shape c.now) (C.pass by) (C.pass result.0)
         (take_answered result.1) }
+    ensures answered { TakeAnswers (take_answered result.1) (C.pass by) (C.pass result.0) }
 {
     take_waiting_with(c, rt, by, || {})
 }
@@ -56,6 +58,7 @@ pub fn take_waiting_with<T, C: Shared<T>, W: Wait, F: FnMut() + Drop>(
     ensures of { C.is_pass c.now result.0 }
     ensures gives { TakeGives (C.shape c.now) (C.pass by) (C.pass result.0)
         (take_answered result.1) }
+    ensures answered { TakeAnswers (take_answered result.1) (C.pass by) (C.pass result.0) }
 {
     let mut before = before;
     let mut pass = by;

@@ -14,13 +14,14 @@ ghost use Rattle.ms_queue.specs.Trying.{LenTried};
 use crate::life::queue::{Answered, Pass, Queue};
 use crate::rule::Queued;
 use atomic_table::Seat;
-use bounded::{leave, whole};
 use bounded_model::Stepped;
 use machine::View;
 use queue_machine::Line;
 use queue_table::Operation;
 use queue_table::layout::{HEAD, TAIL, next};
-use running::{Access, Call, Code, Next, Op, Outcome, any, aside, fast_step, first_step};
+use running::{
+    Access, Code, Next, Op, Outcome, Replies, any, aside, fast_step, first_step, leave, whole,
+};
 use std::sync::Wait;
 use tagged_index::{NULL, Tagged};
 
@@ -40,43 +41,46 @@ pub enum LenAt {
     CheckHead(Tagged, Tagged, Tagged),
 }
 
-/// How many values the queue held at some time since its pass's last step before the call, from 0
-/// to the capacity. The call retries while takes change the head. It was a run of the machine's
-/// steps.
-pub fn len<T, R: Wait>(on: &Queue<T>, rt: &R, by: Pass<T>) -> (Pass<T>, u32)
-    requires { IsPassOf on.now by }
-    ensures of { IsPassOf on.now result.0 }
-    ensures gives { LenGives (shape_of on.now) (pass_in by) (pass_in result.0) result.1 }
-    ensures answered { Answers (pass_in by) (pass_in result.0) (LenAnswered result.1) }
-    ensures ran { WasRun on.now LenFirst (pass_in by) result.0 (AnswerLen result.1) }
-{
-    let Pass { pass, .. } = by;
-    let len = Operation::Len;
-    let first = first_step(&on.table.shared, on, pass, LenAt::LoadHead, &len);
-    let (pass, count) = whole(rt, on, first, len);
-    (pass, count as u32)
-}
+impl<T> Queue<T> {
+    /// How many values the queue held at some time since its pass's last step before the call, from
+    /// 0 to the capacity. The call retries while takes change the head. It was a run of the
+    /// machine's steps.
+    pub fn len<R: Wait>(&self, rt: &R, by: Pass<T>) -> (Pass<T>, u32)
+        requires { IsPassOf self.now by }
+        ensures of { IsPassOf self.now result.0 }
+        ensures gives { LenGives (shape_of self.now) (pass_in by) (pass_in result.0) result.1 }
+        ensures answered { Answers (pass_in by) (pass_in result.0) (LenAnswered result.1) }
+        ensures ran { WasRun self.now LenFirst (pass_in by) result.0 (AnswerLen result.1) }
+    {
+        let Pass { pass, .. } = by;
+        let len = Operation::Len;
+        let first = first_step(&self.table.shared, self, pass, LenAt::LoadHead, &len);
+        let (pass, count) = whole(rt, self, first, len);
+        (pass, count as u32)
+    }
 
-/// A count that makes no step yet.
-#[inline]
-pub fn begin_len<T>(on: &Queue<T>, by: Pass<T>) -> LenOp<T>
-    requires { IsPassOf on.now by }
-    ensures { IsCounting on.now result
-        × (underway_of (machine_of on.now) result.pass ≡ no_step (pass_in by)) }
-{
-    let Pass { pass, .. } = by;
-    Op::begin(on, pass, Operation::Len, LenAt::LoadHead)
-}
+    /// Begins a count, and makes no step yet. If the operation is dropped, its pass goes with it.
+    #[inline]
+    pub fn begin_len(&self, by: Pass<T>) -> LenOp<T>
+        requires { IsPassOf self.now by }
+        ensures { IsCounting self.now result
+            × (underway_of (machine_of self.now) result.pass ≡ no_step (pass_in by)) }
+    {
+        let Pass { pass, .. } = by;
+        Op::begin(self, pass, Operation::Len, LenAt::LoadHead)
+    }
 
-/// Counts the values on the fast path alone, as `put_at_once` puts one.
-#[inline]
-pub fn len_at_once<T>(on: &Queue<T>, by: Pass<T>) -> Stepped<LenOp<T>, Pass<T>, u64>
-    requires { IsPassOf on.now by }
-    ensures { LenTried on.now (pass_in by) result }
-{
-    let len = Operation::Len;
-    let first = len_fast(on, by, &len);
-    leave(on, first, len)
+    /// Counts the values on the fast path alone, as `put_at_once` puts one. The count is from 0 to
+    /// the capacity. The answers are those of `len`.
+    #[inline]
+    pub fn len_at_once(&self, by: Pass<T>) -> Stepped<LenOp<T>, Pass<T>, u64>
+        requires { IsPassOf self.now by }
+        ensures { LenTried self.now (pass_in by) result }
+    {
+        let len = Operation::Len;
+        let first = len_fast(self, by, &len);
+        leave(self, first, len)
+    }
 }
 
 // A count's four loads, as long as no other pass changes the head.
@@ -153,13 +157,15 @@ impl<T> Code<Queue<T>, T, Line<T>, Operation<T>, Queued, Answered<u64>, 2> for L
     }
 }
 
-impl<T> Call<Queue<T>, T, Line<T>, Operation<T>, Queued, Answered<u64>, 2> for LenAt {
+impl<T> Replies<Queue<T>, T, Line<T>, Operation<T>, Queued, (), u64, 2> for LenAt {
     ghost use Rattle.std.specs.Prelude.{refl};
-    ghost use Rattle.ms_queue.specs.KeepsGauge.{len_promises, len_keeps};
+    ghost use Rattle.ms_queue.specs.KeepsGauge.{len_given, len_promises};
 
-    ghost promises = { len_promises };
+    ghost gives = { len_promises };
 
     ghost idle = { λ key o answer. refl };
 
-    ghost keeps = { len_keeps };
+    ghost given = { len_given };
+
+    ghost kept = { λ key o answer. tt };
 }

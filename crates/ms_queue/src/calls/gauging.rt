@@ -15,12 +15,11 @@ use crate::call_parts::seeking::{End, Seek, seek_access, seek_on};
 use crate::life::queue::{Answered, Pass, Queue};
 use crate::rule::Queued;
 use atomic_table::Seat;
-use bounded::whole;
 use machine::seats::View;
 use queue_machine::Line;
 use queue_table::Operation;
 use queue_table::layout::next;
-use running::{Access, Call, Code, Next, Op, Outcome, first_step};
+use running::{Access, Code, Next, Op, Outcome, Replies, first_step, whole};
 use std::sync::Wait;
 use tagged_index::Tagged;
 
@@ -32,7 +31,7 @@ pub type GaugeOp<T> = Op<T, Line<T>, Operation<T>, GaugeAt>;
 pub struct Gauge {
     /// Whether the queue was closed.
     pub closed: bool,
-    /// How many of the tags that the queue's limit allows were used: the number of values put.
+    /// How many values were put, at most the tag limit.
     pub used: u64,
 }
 
@@ -45,36 +44,38 @@ pub enum GaugeAt {
     CheckNext(Tagged, Tagged),
 }
 
-/// Whether the queue was closed, and how many tags were used, both at one time since its pass's
-/// last step before the call. The call retries while others put values. It was a run of the
-/// machine's steps. Called in `queue_tests`.
-pub fn read_gauge<T, R: Wait>(on: &Queue<T>, rt: &R, by: Pass<T>) -> (Pass<T>, Gauge)
-    requires { IsPassOf on.now by }
-    ensures of { IsPassOf on.now result.0 }
-    ensures gives { GaugeGives (room_of on.now) (limit_of on.now)
-        (pass_in by) (pass_in result.0) result.1 }
-    ensures answered { Answers (pass_in by) (pass_in result.0)
-        (GaugeAnswered result.1.closed result.1.used) }
-    ensures ran { WasRun on.now GaugeFirst (pass_in by) result.0
-        (AnswerGauge result.1.closed result.1.used) }
-{
-    let Pass { pass, .. } = by;
-    let gauge = Operation::Gauge;
-    let begun = GaugeAt::Seeking(Seek::LoadTail);
-    let first = first_step(&on.table.shared, on, pass, begun, &gauge);
-    whole(rt, on, first, gauge)
-}
+impl<T> Queue<T> {
+    /// Whether the queue was closed, and how many tags were used, both at one time since its pass's
+    /// last step before the call. The call retries while others put values. It was a run of the
+    /// machine's steps. Called in `queue_tests`.
+    pub fn gauge<R: Wait>(&self, rt: &R, by: Pass<T>) -> (Pass<T>, Gauge)
+        requires { IsPassOf self.now by }
+        ensures of { IsPassOf self.now result.0 }
+        ensures gives { GaugeGives (room_of self.now) (limit_of self.now)
+            (pass_in by) (pass_in result.0) result.1 }
+        ensures answered { Answers (pass_in by) (pass_in result.0)
+            (GaugeAnswered result.1.closed result.1.used) }
+        ensures ran { WasRun self.now GaugeFirst (pass_in by) result.0
+            (AnswerGauge result.1.closed result.1.used) }
+    {
+        let Pass { pass, .. } = by;
+        let gauge = Operation::Gauge;
+        let begun = GaugeAt::Seeking(Seek::LoadTail);
+        let first = first_step(&self.table.shared, self, pass, begun, &gauge);
+        whole(rt, self, first, gauge)
+    }
 
-/// A gauge that makes no step yet.
-#[inline]
-pub fn begin_gauge<T>(on: &Queue<T>, by: Pass<T>) -> GaugeOp<T>
-    requires { IsPassOf on.now by }
-    ensures { IsGauging on.now result
-        × (underway_of (machine_of on.now) result.pass ≡ no_step (pass_in by)) }
-{
-    let Pass { pass, .. } = by;
-    let begun = GaugeAt::Seeking(Seek::LoadTail);
-    Op::begin(on, pass, Operation::Gauge, begun)
+    /// Begins a gauge, and makes no step yet. If the operation is dropped, its pass goes with it.
+    #[inline]
+    pub fn begin_gauge(&self, by: Pass<T>) -> GaugeOp<T>
+        requires { IsPassOf self.now by }
+        ensures { IsGauging self.now result
+            × (underway_of (machine_of self.now) result.pass ≡ no_step (pass_in by)) }
+    {
+        let Pass { pass, .. } = by;
+        let begun = GaugeAt::Seeking(Seek::LoadTail);
+        Op::begin(self, pass, Operation::Gauge, begun)
+    }
 }
 
 impl<T> Code<Queue<T>, T, Line<T>, Operation<T>, Queued, Answered<Gauge>, 2> for GaugeAt {
@@ -131,13 +132,15 @@ impl<T> Code<Queue<T>, T, Line<T>, Operation<T>, Queued, Answered<Gauge>, 2> for
     }
 }
 
-impl<T> Call<Queue<T>, T, Line<T>, Operation<T>, Queued, Answered<Gauge>, 2> for GaugeAt {
+impl<T> Replies<Queue<T>, T, Line<T>, Operation<T>, Queued, (), Gauge, 2> for GaugeAt {
     ghost use Rattle.std.specs.Prelude.{refl};
-    ghost use Rattle.ms_queue.specs.KeepsGauge.{gauge_promises, gauge_keeps};
+    ghost use Rattle.ms_queue.specs.KeepsGauge.{gauge_given, gauge_promises};
 
-    ghost promises = { gauge_promises };
+    ghost gives = { gauge_promises };
 
     ghost idle = { λ key o answer. refl };
 
-    ghost keeps = { gauge_keeps };
+    ghost given = { gauge_given };
+
+    ghost kept = { λ key o answer. tt };
 }

@@ -1,12 +1,27 @@
 //! Looking whether a queue is empty: by steps, and by a whole call.
-use crate::life::queue::{Answered, Queue};
+ghost use Rattle.std.specs.Prelude.{◌≡◌};
+ghost use Rattle.bounded_model.specs.Laws.{Answers, LookGives};
+ghost use Rattle.bounded_model.specs.Stepping.{no_step};
+ghost use Rattle.bounded_model.specs.declared.commands.Command.TheVariants.{Look as LookCall};
+ghost use Rattle.bounded_model.specs.declared.views.Answered.TheVariants.{Look as LookAnswered};
+ghost use Rattle.running.specs.Kept.{WasRun};
+ghost use Rattle.running.specs.Ops.{underway_of};
+ghost use Rattle.ms_queue.specs.Calls.{is_call};
+ghost use Rattle.ms_queue.specs.Looking.{IsLooking, look_account};
+ghost use Rattle.ms_queue.specs.Queue.{IsPassOf, machine_of, pass_in, shape_of};
+ghost use Rattle.ms_queue.specs.Trying.{LookTried};
+
+use crate::fast_paths::look_fast::look_fast;
+use crate::life::queue::{Answered, Pass, Queue};
 use crate::rule::Queued;
 use atomic_table::Seat;
+use bounded_model::Stepped;
 use machine::seats::View;
 use queue_machine::Line;
 use queue_table::Operation;
 use queue_table::layout::{HEAD, next};
-use running::{Access, Call, Code, Next, Op, Outcome};
+use running::{Access, Code, Next, Op, Outcome, Replies, leave, whole};
+use std::sync::Wait;
 use tagged_index::{NULL, Tagged};
 
 /// A look that was begun.
@@ -21,6 +36,46 @@ pub enum LookAt {
     LoadNext(Tagged),
     /// Load `HEAD` again.
     CheckHead(Tagged, Tagged),
+}
+
+impl<T> Queue<T> {
+    /// Begins a look, and makes no step yet. If the operation is dropped, its pass goes with it.
+    #[inline]
+    pub fn begin_look(&self, by: Pass<T>) -> LookOp<T>
+        requires { IsPassOf self.now by }
+        ensures makes { IsLooking self.now result }
+        ensures begun { underway_of (machine_of self.now) result.pass ≡ no_step (pass_in by) }
+    {
+        let Pass { pass, .. } = by;
+        Op::begin(self, pass, Operation::Look, LookAt::LoadHead)
+    }
+
+    /// Whether the queue held no value at some time since its pass's last step before the call, also
+    /// if it is closed or shut. The call was a run of the machine's steps.
+    #[inline]
+    pub fn look<R: Wait>(&self, rt: &R, by: Pass<T>) -> (Pass<T>, bool)
+        requires { IsPassOf self.now by }
+        ensures of { IsPassOf self.now result.0 }
+        ensures gives { LookGives (shape_of self.now) (pass_in by) (pass_in result.0) result.1 }
+        ensures answered { Answers (pass_in by) (pass_in result.0) (LookAnswered result.1) }
+        ensures ran { WasRun (machine_of self.now) (look_account self.now.table.shared.key)
+            (is_call LookCall) (pass_in by) result.0 result.1 }
+    {
+        let look = Operation::Look;
+        let first = look_fast(self, by, &look);
+        whole(rt, self, first, look)
+    }
+
+    /// Looks on the fast path alone, as `put_at_once` puts. The answers are those of `look`.
+    #[inline(always)]
+    pub fn look_at_once(&self, by: Pass<T>) -> Stepped<LookOp<T>, Pass<T>, bool>
+        requires { IsPassOf self.now by }
+        ensures { LookTried self.now (pass_in by) result }
+    {
+        let look = Operation::Look;
+        let first = look_fast(self, by, &look);
+        leave(self, first, look)
+    }
 }
 
 impl<T> Code<Queue<T>, T, Line<T>, Operation<T>, Queued, Answered<bool>, 2> for LookAt {
@@ -63,13 +118,15 @@ impl<T> Code<Queue<T>, T, Line<T>, Operation<T>, Queued, Answered<bool>, 2> for 
     }
 }
 
-impl<T> Call<Queue<T>, T, Line<T>, Operation<T>, Queued, Answered<bool>, 2> for LookAt {
+impl<T> Replies<Queue<T>, T, Line<T>, Operation<T>, Queued, (), bool, 2> for LookAt {
     ghost use Rattle.std.specs.Prelude.{refl};
-    ghost use Rattle.ms_queue.specs.KeepsAnswers.{look_promises, look_keeps};
+    ghost use Rattle.ms_queue.specs.KeepsAnswers.{look_given, look_promises};
 
-    ghost promises = { look_promises };
+    ghost gives = { look_promises };
 
     ghost idle = { λ key o answer. refl };
 
-    ghost keeps = { look_keeps };
+    ghost given = { look_given };
+
+    ghost kept = { λ key o answer. tt };
 }

@@ -1,26 +1,36 @@
 //! Putting one value: by steps, and by a whole call. While the put has a cell, the value is in the
 //! cell's slot, and a snapshot shows it to proofs.
 ghost use Rattle.std.specs.Prelude.{◌≡◌, ◌≤◌};
+ghost use Rattle.bounded_model.specs.Laws.{Answers, PutGives, put_answered};
+ghost use Rattle.bounded_model.specs.Stepping.{no_step};
+ghost use Rattle.bounded_model.specs.declared.commands.Command.TheVariants.{Put as PutCall};
+ghost use Rattle.running.specs.Kept.{WasRun};
+ghost use Rattle.running.specs.Ops.{underway_of};
 ghost use Rattle.tagged_index.specs.Fields.{number};
 ghost use Rattle.tagged_index.specs.declared.word.TheConstants.{MAX_TAG};
 ghost use Rattle.queue_machine.specs.Machine.{null_word};
 ghost use Rattle.queue_machine.specs.declared.lines.Call.TheVariants.{Put as CallPut};
 ghost use Rattle.queue_table.specs.Lines.{call_of};
-ghost use Rattle.ms_queue.specs.Calls.{put_of};
+ghost use Rattle.ms_queue.specs.Calls.{is_call, put_of};
+ghost use Rattle.ms_queue.specs.Putting.{IsPutting, put_account};
+ghost use Rattle.ms_queue.specs.Queue.{IsPassOf, machine_of, pass_in, shape_of};
+ghost use Rattle.ms_queue.specs.Trying.{PutTried};
 
 use crate::call_parts::giving::{Give, Held, give_access, give_next};
 use crate::call_parts::seeking::{End, Seek, seek_access, seek_on};
-use crate::life::queue::{Answered, Queue};
+use crate::fast_paths::put_fast::put_fast;
+use crate::life::queue::{Answered, Pass, Queue};
 use crate::rule::Queued;
 use atomic_table::Seat;
-use bounded_model::{PutRefused, Word};
+use bounded_model::{PutRefused, Stepped, Word};
 use index_list::{move_out, put_in};
 use machine::seats::View;
 use queue_machine::Line;
 use queue_table::Operation;
 use queue_table::layout::{CELL_LIST, NODE_LIST, TAIL, cell, next};
-use running::{Access, Call, Code, Next, Op, Outcome, raised};
+use running::{Access, Code, Next, Op, Outcome, Replies, leave, raised, told, whole};
 use std::snapshot::Snapshot;
+use std::sync::Wait;
 use tagged_index::{NULL, Tagged};
 
 /// A put that was begun.
@@ -81,6 +91,73 @@ pub(crate) fn put_operation<T>(value: &T) -> Operation<T>
     ensures { (result ≡ put_of value.now) × (call_of result ≡ CallPut value.now) }
 {
     Operation::Put(Snapshot::of(value))
+}
+
+impl<T> Queue<T> {
+    /// Begins a put of this value, and makes no step yet. If the operation is dropped, its pass goes
+    /// with it, and its cell stays reserved.
+    #[inline]
+    pub fn begin_put(&self, by: Pass<T>, value: T) -> PutOp<T>
+        requires { IsPassOf self.now by }
+        ensures makes { IsPutting self.now value result }
+        ensures begun { underway_of (machine_of self.now) result.pass ≡ no_step (pass_in by) }
+    {
+        let Pass { pass, .. } = by;
+        let put = put_operation(&value);
+        Op::begin(self, pass, put, PutAt::LoadCells(value))
+    }
+
+    /// Puts a value. The call retries while others interfere.
+    /// - `Ok`: the put's number. Puts count 0, 1, 2, …
+    /// - `Full`: the queue was open, and each cell held a value or was in a pass's hand.
+    /// - `Closed`: the queue was closed.
+    /// - `Spent`: the queue is worn out for good. The word is `Cells` or `Next`.
+    ///
+    /// Each refusal hands the value back. The call was a run of the machine's steps.
+    #[inline(always)]
+    pub fn put<R: Wait>(
+        &self,
+        rt: &R,
+        by: Pass<T>,
+        value: T,
+    ) -> (Pass<T>, Result<u64, PutRefused<T>>)
+        requires { IsPassOf self.now by }
+        ensures of { IsPassOf self.now result.0 }
+        ensures gives { PutGives (shape_of self.now) (pass_in by) value (pass_in result.0)
+            result.1 }
+        ensures answered { Answers (pass_in by) (pass_in result.0) (put_answered result.1) }
+        ensures ran { WasRun (machine_of self.now) (put_account self.now.table.shared.key)
+            (is_call (PutCall value)) (pass_in by) result.0 result.1 }
+    {
+        let put = put_operation(&value);
+        // Looked at here, before a call copies it, so that the answer need not go through memory.
+        match put_fast(self, by, value, &put) {
+            (pass, Next::Done(answer)) => told(pass, answer),
+            under_way => whole(rt, self, under_way, put),
+        }
+    }
+
+    /// Puts a value on the fast path alone, with a wait of at most 640 spin hints if a
+    /// compare-and-swap failed. If this does not end the put, it comes back under way. The answers
+    /// are those of `put`.
+    #[inline(always)]
+    pub fn put_at_once(
+        &self,
+        by: Pass<T>,
+        value: T,
+    ) -> Stepped<PutOp<T>, Pass<T>, Result<u64, PutRefused<T>>>
+        requires { IsPassOf self.now by }
+        ensures { PutTried self.now value (pass_in by) result }
+    {
+        let put = put_operation(&value);
+        match put_fast(self, by, value, &put) {
+            (pass, Next::Done(answer)) => {
+                let (back, reply) = told(pass, answer);
+                Stepped::Done(back, reply)
+            }
+            under_way => leave(self, under_way, put),
+        }
+    }
 }
 
 impl<T> Code<Queue<T>, T, Line<T>, Operation<T>, Queued, Answered<Answer<T>>, 2> for PutAt<T> {
@@ -246,13 +323,15 @@ impl<T> Code<Queue<T>, T, Line<T>, Operation<T>, Queued, Answered<Answer<T>>, 2>
     }
 }
 
-impl<T> Call<Queue<T>, T, Line<T>, Operation<T>, Queued, Answered<Answer<T>>, 2> for PutAt<T> {
+impl<T> Replies<Queue<T>, T, Line<T>, Operation<T>, Queued, (), Answer<T>, 2> for PutAt<T> {
     ghost use Rattle.std.specs.Prelude.{refl};
-    ghost use Rattle.ms_queue.specs.KeepsAnswers.{put_promises, put_keeps};
+    ghost use Rattle.ms_queue.specs.KeepsAnswers.{put_given, put_promises};
 
-    ghost promises = { put_promises };
+    ghost gives = { put_promises };
 
     ghost idle = { λ key o answer. refl };
 
-    ghost keeps = { put_keeps };
+    ghost given = { put_given };
+
+    ghost kept = { λ key o answer. tt };
 }

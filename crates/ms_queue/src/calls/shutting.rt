@@ -1,12 +1,24 @@
 //! Shutting a queue: its head gets the second mark. By steps, and by a whole call.
-use crate::life::queue::{Answered, Queue};
+ghost use Rattle.std.specs.Prelude.{◌≡◌};
+ghost use Rattle.bounded_model.specs.Laws.{Answers, ShutGives};
+ghost use Rattle.bounded_model.specs.Stepping.{no_step};
+ghost use Rattle.bounded_model.specs.declared.commands.Command.TheVariants.{Shut as ShutCall};
+ghost use Rattle.bounded_model.specs.declared.views.Answered.TheVariants.{Shut as ShutAnswered};
+ghost use Rattle.running.specs.Kept.{WasRun};
+ghost use Rattle.running.specs.Ops.{underway_of};
+ghost use Rattle.ms_queue.specs.Calls.{is_call};
+ghost use Rattle.ms_queue.specs.Shutting.{IsShutting, shut_account};
+ghost use Rattle.ms_queue.specs.Queue.{IsPassOf, machine_of, pass_in, shape_of};
+
+use crate::life::queue::{Answered, Pass, Queue};
 use crate::rule::Queued;
 use atomic_table::Seat;
 use machine::seats::View;
 use queue_machine::Line;
 use queue_table::Operation;
 use queue_table::layout::HEAD;
-use running::{Access, Call, Code, Next, Op, Outcome};
+use running::{Access, Code, Next, Op, Outcome, Replies, whole};
+use std::sync::Wait;
 use tagged_index::Tagged;
 
 /// A shut that was begun.
@@ -19,6 +31,38 @@ pub enum ShutAt {
     LoadHead,
     /// Set its second mark.
     Mark(Tagged),
+}
+
+impl<T> Queue<T> {
+    /// Begins a shut, and makes no step yet. If the operation is dropped, its pass goes with it.
+    #[inline]
+    pub fn begin_shut(&self, by: Pass<T>) -> ShutOp<T>
+        requires { IsPassOf self.now by }
+        ensures makes { IsShutting self.now result }
+        ensures begun { underway_of (machine_of self.now) result.pass ≡ no_step (pass_in by) }
+    {
+        let Pass { pass, .. } = by;
+        Op::begin(self, pass, Operation::Shut, ShutAt::LoadHead)
+    }
+
+    /// Shuts the queue: no take follows, but puts may follow until it is closed. True if this call
+    /// shut it, false if it was shut already. The call was a run of the machine's steps.
+    #[inline]
+    pub fn shut<R: Wait>(&self, rt: &R, by: Pass<T>) -> (Pass<T>, bool)
+        requires { IsPassOf self.now by }
+        ensures of { IsPassOf self.now result.0 }
+        ensures gives { ShutGives (shape_of self.now) (pass_in by) (pass_in result.0) result.1 }
+        ensures answered { Answers (pass_in by) (pass_in result.0) (ShutAnswered result.1) }
+        ensures ran { WasRun (machine_of self.now) (shut_account self.now.table.shared.key)
+            (is_call ShutCall) (pass_in by) result.0 result.1 }
+    {
+        let Op {
+            pass,
+            operation,
+            at,
+        } = self.begin_shut(by);
+        whole(rt, self, (pass, Next::On(at)), operation)
+    }
 }
 
 impl<T> Code<Queue<T>, T, Line<T>, Operation<T>, Queued, Answered<bool>, 2> for ShutAt {
@@ -66,13 +110,15 @@ impl<T> Code<Queue<T>, T, Line<T>, Operation<T>, Queued, Answered<bool>, 2> for 
     }
 }
 
-impl<T> Call<Queue<T>, T, Line<T>, Operation<T>, Queued, Answered<bool>, 2> for ShutAt {
+impl<T> Replies<Queue<T>, T, Line<T>, Operation<T>, Queued, (), bool, 2> for ShutAt {
     ghost use Rattle.std.specs.Prelude.{refl};
-    ghost use Rattle.ms_queue.specs.KeepsAnswers.{shut_promises, shut_keeps};
+    ghost use Rattle.ms_queue.specs.KeepsAnswers.{shut_given, shut_promises};
 
-    ghost promises = { shut_promises };
+    ghost gives = { shut_promises };
 
     ghost idle = { λ key o answer. refl };
 
-    ghost keeps = { shut_keeps };
+    ghost given = { shut_given };
+
+    ghost kept = { λ key o answer. tt };
 }

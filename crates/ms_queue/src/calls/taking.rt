@@ -1,15 +1,29 @@
 //! Taking one value: by steps, and by a whole call.
+ghost use Rattle.std.specs.Prelude.{◌≡◌};
+ghost use Rattle.bounded_model.specs.Laws.{Answers, TakeGives};
+ghost use Rattle.bounded_model.specs.Stepping.{no_step};
+ghost use Rattle.bounded_model.specs.declared.commands.Command.TheVariants.{Take as TakeCall};
+ghost use Rattle.bounded_model.specs.declared.views.Answered.TheVariants.{Take as TakeAnswered};
+ghost use Rattle.running.specs.Kept.{WasRun};
+ghost use Rattle.running.specs.Ops.{underway_of};
+ghost use Rattle.ms_queue.specs.Calls.{is_call};
+ghost use Rattle.ms_queue.specs.Queue.{IsPassOf, machine_of, pass_in, shape_of};
+ghost use Rattle.ms_queue.specs.Taking.{IsTaking, take_account};
+ghost use Rattle.ms_queue.specs.Trying.{TakeTried};
+
 use crate::call_parts::giving::{Give, Held, give_access, give_next};
-use crate::life::queue::{Answered, Queue};
+use crate::fast_paths::take_fast::take_fast;
+use crate::life::queue::{Answered, Pass, Queue};
 use crate::rule::Queued;
 use atomic_table::Seat;
-use bounded_model::TakeRefused;
+use bounded_model::{Stepped, TakeRefused};
 use index_list::move_out;
 use machine::seats::View;
 use queue_machine::Line;
 use queue_table::Operation;
 use queue_table::layout::{HEAD, TAIL, cell, next};
-use running::{Access, Call, Code, Next, Op, Outcome, raised};
+use running::{Access, Code, Next, Op, Outcome, Replies, leave, raised, told, whole};
+use std::sync::Wait;
 use tagged_index::{NULL, Tagged};
 
 /// A take that was begun.
@@ -46,6 +60,64 @@ pub struct Taken<T> {
 
 /// What a take answers.
 pub(crate) type Answer<T> = Result<(T, u64), TakeRefused>;
+
+impl<T> Queue<T> {
+    /// Begins a take, and makes no step yet. If the operation is dropped, its pass goes with it, and
+    /// its cell stays reserved.
+    #[inline]
+    pub fn begin_take(&self, by: Pass<T>) -> TakeOp<T>
+        requires { IsPassOf self.now by }
+        ensures makes { IsTaking self.now result }
+        ensures begun { underway_of (machine_of self.now) result.pass ≡ no_step (pass_in by) }
+    {
+        let Pass { pass, .. } = by;
+        Op::begin(self, pass, Operation::Take, TakeAt::LoadHead)
+    }
+
+    /// Takes a value. The call retries while others interfere.
+    /// - `Ok`: the value, and the take's number.
+    /// - `Shut`: the queue was shut.
+    /// - `Closed`: the queue held no value, and it was closed but not shut.
+    /// - `Empty`: the queue held no value, and it was neither closed nor shut.
+    ///
+    /// It is never `Spent`. The call was a run of the machine's steps.
+    #[inline(always)]
+    pub fn take<R: Wait>(&self, rt: &R, by: Pass<T>) -> (Pass<T>, Result<(T, u64), TakeRefused>)
+        requires { IsPassOf self.now by }
+        ensures of { IsPassOf self.now result.0 }
+        ensures gives { TakeGives (shape_of self.now) (pass_in by) (pass_in result.0) result.1 }
+        ensures answered { Answers (pass_in by) (pass_in result.0) (TakeAnswered result.1) }
+        ensures ran { WasRun (machine_of self.now) (take_account self.now.table.shared.key)
+            (is_call TakeCall) (pass_in by) result.0 result.1 }
+    {
+        let take = Operation::Take;
+        // Looked at here for the same reason as in `put`.
+        match take_fast(self, by, &take) {
+            (pass, Next::Done(answer)) => told(pass, answer),
+            under_way => whole(rt, self, under_way, take),
+        }
+    }
+
+    /// Takes a value on the fast path alone, as `put_at_once` puts one. The answers are those of
+    /// `take`.
+    #[inline(always)]
+    pub fn take_at_once(
+        &self,
+        by: Pass<T>,
+    ) -> Stepped<TakeOp<T>, Pass<T>, Result<(T, u64), TakeRefused>>
+        requires { IsPassOf self.now by }
+        ensures { TakeTried self.now (pass_in by) result }
+    {
+        let take = Operation::Take;
+        match take_fast(self, by, &take) {
+            (pass, Next::Done(answer)) => {
+                let (back, reply) = told(pass, answer);
+                Stepped::Done(back, reply)
+            }
+            under_way => leave(self, under_way, take),
+        }
+    }
+}
 
 impl<T> Code<Queue<T>, T, Line<T>, Operation<T>, Queued, Answered<Answer<T>>, 2> for TakeAt<T> {
     ghost use Rattle.ms_queue.specs.Taking.{take_account};
@@ -161,13 +233,15 @@ impl<T> Code<Queue<T>, T, Line<T>, Operation<T>, Queued, Answered<Answer<T>>, 2>
     }
 }
 
-impl<T> Call<Queue<T>, T, Line<T>, Operation<T>, Queued, Answered<Answer<T>>, 2> for TakeAt<T> {
+impl<T> Replies<Queue<T>, T, Line<T>, Operation<T>, Queued, (), Answer<T>, 2> for TakeAt<T> {
     ghost use Rattle.std.specs.Prelude.{refl};
-    ghost use Rattle.ms_queue.specs.KeepsAnswers.{take_promises, take_keeps};
+    ghost use Rattle.ms_queue.specs.KeepsAnswers.{take_given, take_promises};
 
-    ghost promises = { take_promises };
+    ghost gives = { take_promises };
 
     ghost idle = { λ key o answer. refl };
 
-    ghost keeps = { take_keeps };
+    ghost given = { take_given };
+
+    ghost kept = { λ key o answer. tt };
 }

@@ -1,34 +1,59 @@
 //! The queue, its passes and its root.
-use crate::calls::closing::CloseOp;
-use crate::calls::looking::LookOp;
-use crate::calls::putting::PutOp;
-use crate::calls::shutting::ShutOp;
-use crate::calls::taking::TakeOp;
+ghost use Rattle.std.specs.Prelude.{◌≡◌, ◌<◌};
+ghost use Rattle.tagged_index.specs.Limits.{capacity_of};
+ghost use Rattle.queue_table.specs.Layout.{words_for};
+
 use crate::rule::Queued;
-use bounded::Bounded;
-use bounded_model::Operation as AnyCall;
+use atomic_table::{Shared, Table};
+use machine::View;
 use queue_machine::Line;
 use queue_table::Operation;
+use running::{HasTable, Keeping, OnTable, Running};
+use std::alloc::Global;
+use tagged_index::Limits;
 
-/// A bounded queue that many threads share. Its table has two lists: the free cells and the free
-/// nodes.
-pub type Queue<T> = Bounded<T, Line<T>, Operation<T>, Queued, 2>;
+/// A bounded queue, first in, first out, that many threads share by `&`, each with a pass of its
+/// own. Its table has two lists: the free cells and the free nodes.
+#[derive(Drop)]
+pub struct Queue<T> {
+    /// The words and values. Only calls change them.
+    pub table: Table<Option<T>, View<T, Line<T>>, Limits, Running<Operation<T>, Queued>, Global>,
+    /// What it was made with: the key of its table.
+    pub limits: Limits,
+    pub ghost keyed: { table.shared.key ≡ limits },
+    pub ghost some_word: { 0 < table.shared.table_id.words },
+    pub ghost words: { table.shared.table_id.words ≡ words_for (capacity_of table.shared.key) },
+    pub ghost slots: { table.shared.table_id.slots ≡ capacity_of table.shared.key },
+}
 
-/// Steps on a queue. It has four bytes, by which its calls know whether to wait.
-pub type Pass<T> = bounded::Pass<T, Line<T>, ()>;
+/// A thread's right to call a queue, one call at a time. It has four bytes, by which its calls know
+/// whether to wait.
+pub type Pass<T> = running::PassWith<T, Line<T>, ()>;
 
-/// Gives passes and takes them back.
-pub type Root<T> = bounded::Root<T, Line<T>, ()>;
+/// Comes with a new queue, gives passes and takes them back. `finish` needs it.
+pub type Root<T> = running::RootWith<T, Line<T>, ()>;
 
-/// What a pass had seen as it was made. It has no bytes.
+/// What a pass had seen when the note was made. It has no bytes.
 pub type Note<T> = running::Note<T, Line<T>>;
 
 /// What an operation has answered. A queue's pass keeps nothing between its calls.
-pub type Answered<R> = bounded::Answered<(), R>;
+pub type Answered<R> = running::Answered<(), R>;
 
-/// A call of a queue that was begun. It is a type of its own, since the prover then compares its
-/// name, not the types of its five kinds of calls.
-#[derive(Drop)]
-pub struct AnyOp<T> {
-    pub call: AnyCall<PutOp<T>, TakeOp<T>, CloseOp<T>, ShutOp<T>, LookOp<T>>,
+impl<T> OnTable for Queue<T> {
+    ghost key = { λ c. c.table.shared.key };
+
+    ghost id = { λ c. c.table.shared.table_id };
+}
+
+impl<T> HasTable<T, Line<T>, Operation<T>, Queued> for Queue<T> {
+    #[inline(always)]
+    fn table(&self) -> &Shared<Option<T>, View<T, Line<T>>, Limits, Running<Operation<T>, Queued>> {
+        &self.table.shared
+    }
+}
+
+impl<T> Keeping<Line<T>, ()> for Queue<T> {
+    ghost use Rattle.ms_queue.specs.Queue.{keeps};
+
+    ghost keeps = { keeps };
 }

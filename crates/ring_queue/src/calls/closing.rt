@@ -1,17 +1,43 @@
 //! Closing a ring: the slot at the back gets the mark, whether it is full or empty. Shutting it: the
 //! slot at the front gets the second mark. Both by steps, and by a whole call.
 ghost use Rattle.std.specs.Prelude.{◌≡◌};
+ghost use Rattle.bounded_model.specs.Laws.{Answers, CloseGives, ShutGives};
+ghost use Rattle.bounded_model.specs.Stepping.{no_step};
+ghost use Rattle.bounded_model.specs.declared.commands.Command.TheVariants.{
+  Close as CloseCall,
+  Shut as ShutCall,
+};
+ghost use Rattle.bounded_model.specs.declared.views.Answered.TheVariants.{
+  Close as CloseAnswered,
+  Shut as ShutAnswered,
+};
+ghost use Rattle.running.specs.Kept.{WasRun};
+ghost use Rattle.running.specs.Ops.{underway_of};
+ghost use Rattle.ring_queue.specs.Calls.{is_call};
 ghost use Rattle.ring_queue.specs.Walking.{full_of, hint_of};
-ghost use Rattle.ring_queue.specs.Closing.{aim_of, is_set, operation_of};
+ghost use Rattle.ring_queue.specs.Closing.{
+  IsClosing,
+  IsShutting,
+  aim_of,
+  is_set,
+  mark_account,
+  mark_of_step,
+  mark_reply,
+  operation_of,
+};
+ghost use Rattle.ring_queue.specs.Ring.{IsPassOf, machine_of, pass_in, shape_of};
 
 use crate::call_parts::walking::{Found, WalkAt, slot_of, walk_access, walk_on};
-use crate::life::ring::{Answered, RingQueue};
+use crate::life::ring::{Answered, Pass, RingQueue};
+use crate::life::spare::Spare;
 use crate::rule::Ringed;
 use atomic_table::Seat;
+use bounded_model::Reply;
 use machine::seats::View;
 use ring_table::layout::{HEAD, TAIL};
 use ring_table::{Operation, SeatLine};
-use running::{Access, Call, Code, Next, Op, Outcome};
+use running::{Access, Code, Next, Op, Outcome, Replies, whole};
+use std::sync::Wait;
 
 /// A close that was begun.
 pub type CloseOp<T> = Op<T, SeatLine<T>, Operation<T>, MarkAt>;
@@ -29,6 +55,17 @@ pub enum Mark {
 }
 
 impl Mark {
+    /// The reply of the call that sets it.
+    #[inline]
+    pub(crate) fn said<T>(self, done: bool) -> Reply<T>
+        ensures { result ≡ mark_reply self done }
+    {
+        match self {
+            Mark::Closed => Reply::Close(done),
+            Mark::Shut => Reply::Shut(done),
+        }
+    }
+
     #[inline(always)]
     fn operation<T>(self) -> Operation<T>
         ensures { result ≡ operation_of self }
@@ -80,6 +117,85 @@ pub enum MarkAt {
     Walking(Mark, WalkAt),
     /// Set the mark of the slot there.
     Setting(Mark, Found),
+}
+
+impl MarkAt {
+    /// Which mark it sets.
+    #[inline]
+    pub(crate) fn mark(&self) -> Mark
+        ensures { result ≡ mark_of_step self.now }
+    {
+        match self {
+            MarkAt::Walking(mark, _) => *mark,
+            MarkAt::Setting(mark, _) => *mark,
+        }
+    }
+}
+
+impl<T> RingQueue<T> {
+    /// Begins a close, and makes no step yet. If the operation is dropped, its pass goes with it, and
+    /// its cell stays reserved.
+    #[inline]
+    pub fn begin_close(&self, by: Pass<T>) -> CloseOp<T>
+        requires { IsPassOf self.now by }
+        ensures makes { IsClosing self.now result }
+        ensures begun { underway_of (machine_of self.now) result.pass ≡ no_step (pass_in by) }
+    {
+        let Pass { pass, kept } = by;
+        let begun = MarkAt::Walking(Mark::Closed, WalkAt::LoadHint(kept));
+        Op::begin(self, pass, Operation::Close, begun)
+    }
+
+    /// Closes the ring: no put follows, but values that are left can be taken. True if this call
+    /// closed it, false if it was closed already. The call was a run of the machine's steps.
+    #[inline]
+    pub fn close<R: Wait>(&self, rt: &R, by: Pass<T>) -> (Pass<T>, bool)
+        requires { IsPassOf self.now by }
+        ensures of { IsPassOf self.now result.0 }
+        ensures gives { CloseGives (shape_of self.now) (pass_in by) (pass_in result.0) result.1 }
+        ensures answered { Answers (pass_in by) (pass_in result.0) (CloseAnswered result.1) }
+        ensures ran { WasRun (machine_of self.now) (mark_account self.now.table.shared.key)
+            (is_call CloseCall) (pass_in by) result.0 result.1 }
+    {
+        let Op {
+            pass,
+            operation,
+            at,
+        } = self.begin_close(by);
+        whole(rt, self, (pass, Next::On(at)), operation)
+    }
+
+    /// Begins a shut, and makes no step yet. If the operation is dropped, its pass goes with it, and
+    /// its cell stays reserved.
+    #[inline]
+    pub fn begin_shut(&self, by: Pass<T>) -> ShutOp<T>
+        requires { IsPassOf self.now by }
+        ensures makes { IsShutting self.now result }
+        ensures begun { underway_of (machine_of self.now) result.pass ≡ no_step (pass_in by) }
+    {
+        let Pass { pass, kept } = by;
+        let begun = MarkAt::Walking(Mark::Shut, WalkAt::LoadHint(kept));
+        Op::begin(self, pass, Operation::Shut, begun)
+    }
+
+    /// Shuts the ring: no take follows, but puts may follow until it is closed. True if this call
+    /// shut it, false if it was shut already. The call was a run of the machine's steps.
+    #[inline]
+    pub fn shut<R: Wait>(&self, rt: &R, by: Pass<T>) -> (Pass<T>, bool)
+        requires { IsPassOf self.now by }
+        ensures of { IsPassOf self.now result.0 }
+        ensures gives { ShutGives (shape_of self.now) (pass_in by) (pass_in result.0) result.1 }
+        ensures answered { Answers (pass_in by) (pass_in result.0) (ShutAnswered result.1) }
+        ensures ran { WasRun (machine_of self.now) (mark_account self.now.table.shared.key)
+            (is_call ShutCall) (pass_in by) result.0 result.1 }
+    {
+        let Op {
+            pass,
+            operation,
+            at,
+        } = self.begin_shut(by);
+        whole(rt, self, (pass, Next::On(at)), operation)
+    }
 }
 
 impl<T> Code<RingQueue<T>, T, SeatLine<T>, Operation<T>, Ringed, Answered<bool>, 0> for MarkAt {
@@ -135,12 +251,15 @@ impl<T> Code<RingQueue<T>, T, SeatLine<T>, Operation<T>, Ringed, Answered<bool>,
     }
 }
 
-impl<T> Call<RingQueue<T>, T, SeatLine<T>, Operation<T>, Ringed, Answered<bool>, 0> for MarkAt {
+impl<T> Replies<RingQueue<T>, T, SeatLine<T>, Operation<T>, Ringed, Spare, bool, 0> for MarkAt {
     ghost use Rattle.std.specs.Prelude.{refl};
+    ghost use Rattle.ring_queue.specs.KeepsAnswers.{mark_given, mark_promises};
 
-    ghost promises = { λ key o begun now answer. Unit {0} };
+    ghost gives = { mark_promises };
 
     ghost idle = { λ key o answer. refl };
 
-    ghost keeps = { λ key at view begun answer ended. tt };
+    ghost given = { mark_given };
+
+    ghost kept = { λ key o answer. refl };
 }

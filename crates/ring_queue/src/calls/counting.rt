@@ -15,11 +15,10 @@ use crate::life::ring::{Answered, Pass, RingQueue};
 use crate::life::spare::Spare;
 use crate::rule::Ringed;
 use atomic_table::Seat;
-use bounded::whole;
 use machine::seats::View;
 use ring_table::layout::{HEAD, TAIL};
 use ring_table::{Operation, SeatLine};
-use running::{Access, Call, Code, Next, Op, Outcome, first_step};
+use running::{Access, Code, Next, Op, Outcome, Replies, first_step, whole};
 use std::sync::Wait;
 use tagged_index::Tagged;
 
@@ -37,33 +36,36 @@ pub enum LenAt {
     CheckFront(Spare, Tagged, Tagged),
 }
 
-/// How many values the ring held at some time since its pass's last step before the call, from
-/// 0 to the capacity. It retries while values are taken. The call was a run of the machine's steps.
-pub fn len<T, R: Wait>(on: &RingQueue<T>, rt: &R, by: Pass<T>) -> (Pass<T>, u32)
-    requires { IsPassOf on.now by }
-    ensures of { IsPassOf on.now result.0 }
-    ensures gives { LenGives (shape_of on.now) (pass_in by) (pass_in result.0) result.1 }
-    ensures answered { Answers (pass_in by) (pass_in result.0) (LenAnswered result.1) }
-    ensures ran { WasRun on.now LenFirst (pass_in by) result.0 (AnswerLen result.1) }
-{
-    let Pass { pass, kept } = by;
-    let len = Operation::Len;
-    let begun = LenAt::ToFront(WalkAt::LoadHint(kept));
-    let first = first_step(&on.table.shared, on, pass, begun, &len);
-    let (pass, count) = whole(rt, on, first, len);
-    (pass, count as u32)
-}
+impl<T> RingQueue<T> {
+    /// How many values the ring held at some time since its pass's last step before the call, from
+    /// 0 to the capacity. It retries while values are taken. The call was a run of the machine's steps.
+    pub fn len<R: Wait>(&self, rt: &R, by: Pass<T>) -> (Pass<T>, u32)
+        requires { IsPassOf self.now by }
+        ensures of { IsPassOf self.now result.0 }
+        ensures gives { LenGives (shape_of self.now) (pass_in by) (pass_in result.0) result.1 }
+        ensures answered { Answers (pass_in by) (pass_in result.0) (LenAnswered result.1) }
+        ensures ran { WasRun self.now LenFirst (pass_in by) result.0 (AnswerLen result.1) }
+    {
+        let Pass { pass, kept } = by;
+        let len = Operation::Len;
+        let begun = LenAt::ToFront(WalkAt::LoadHint(kept));
+        let first = first_step(&self.table.shared, self, pass, begun, &len);
+        let (pass, count) = whole(rt, self, first, len);
+        (pass, count as u32)
+    }
 
-/// A count that makes no step yet.
-#[inline]
-pub fn begin_len<T>(on: &RingQueue<T>, by: Pass<T>) -> LenOp<T>
-    requires { IsPassOf on.now by }
-    ensures { IsCounting on.now result
-        × (underway_of (machine_of on.now) result.pass ≡ no_step (pass_in by)) }
-{
-    let Pass { pass, kept: spare } = by;
-    let begun = LenAt::ToFront(WalkAt::LoadHint(spare));
-    Op::begin(on, pass, Operation::Len, begun)
+    /// Begins a count, and makes no step yet. If the operation is dropped, its pass goes with it, and
+    /// its cell stays reserved.
+    #[inline]
+    pub fn begin_len(&self, by: Pass<T>) -> LenOp<T>
+        requires { IsPassOf self.now by }
+        ensures { IsCounting self.now result
+            × (underway_of (machine_of self.now) result.pass ≡ no_step (pass_in by)) }
+    {
+        let Pass { pass, kept: spare } = by;
+        let begun = LenAt::ToFront(WalkAt::LoadHint(spare));
+        Op::begin(self, pass, Operation::Len, begun)
+    }
 }
 
 impl<T> Code<RingQueue<T>, T, SeatLine<T>, Operation<T>, Ringed, Answered<u64>, 0> for LenAt {
@@ -118,13 +120,15 @@ impl<T> Code<RingQueue<T>, T, SeatLine<T>, Operation<T>, Ringed, Answered<u64>, 
     }
 }
 
-impl<T> Call<RingQueue<T>, T, SeatLine<T>, Operation<T>, Ringed, Answered<u64>, 0> for LenAt {
+impl<T> Replies<RingQueue<T>, T, SeatLine<T>, Operation<T>, Ringed, Spare, u64, 0> for LenAt {
     ghost use Rattle.std.specs.Prelude.{refl};
-    ghost use Rattle.ring_queue.specs.KeepsGauge.{len_promises, len_keeps};
+    ghost use Rattle.ring_queue.specs.KeepsGauge.{len_given, len_promises};
 
-    ghost promises = { len_promises };
+    ghost gives = { len_promises };
 
     ghost idle = { λ key o answer. refl };
 
-    ghost keeps = { len_keeps };
+    ghost given = { len_given };
+
+    ghost kept = { λ key o answer. refl };
 }

@@ -12,13 +12,13 @@ ghost use Rattle.ring_queue.specs.Ring.{IsPassOf, laps_of, machine_of, pass_in, 
 
 use crate::call_parts::walking::{WalkAt, place_of, walk_access, walk_on};
 use crate::life::ring::{Answered, Pass, RingQueue};
+use crate::life::spare::Spare;
 use crate::rule::Ringed;
 use atomic_table::Seat;
-use bounded::whole;
 use machine::seats::View;
 use ring_table::layout::TAIL;
 use ring_table::{Operation, SeatLine};
-use running::{Access, Call, Code, Next, Op, Outcome, first_step};
+use running::{Access, Code, Next, Op, Outcome, Replies, first_step, whole};
 use std::sync::Wait;
 
 /// A gauge that was begun.
@@ -39,39 +39,42 @@ pub struct GaugeAt {
     pub(crate) at: WalkAt,
 }
 
-/// Whether the ring was closed, and how many values were put, both at one time since its pass's
-/// last step before the call. The gauge walks further while others put values. The call was a
-/// run of the machine's steps.
-pub fn read_gauge<T, R: Wait>(on: &RingQueue<T>, rt: &R, by: Pass<T>) -> (Pass<T>, Gauge)
-    requires { IsPassOf on.now by }
-    ensures of { IsPassOf on.now result.0 }
-    ensures gives { GaugeGives (room_of on.now) (laps_of on.now)
-        (pass_in by) (pass_in result.0) result.1 }
-    ensures answered { Answers (pass_in by) (pass_in result.0)
-        (GaugeAnswered result.1.closed result.1.used) }
-    ensures ran { WasRun on.now GaugeFirst (pass_in by) result.0 (AnswerGauge result.1.closed result.1.used) }
-{
-    let Pass { pass, kept } = by;
-    let gauge = Operation::Gauge;
-    let begun = GaugeAt {
-        at: WalkAt::LoadHint(kept),
-    };
-    let first = first_step(&on.table.shared, on, pass, begun, &gauge);
-    whole(rt, on, first, gauge)
-}
+impl<T> RingQueue<T> {
+    /// Whether the ring was closed, and how many values were put, both at one time since its pass's
+    /// last step before the call. The gauge walks further while others put values. The call was a
+    /// run of the machine's steps.
+    pub fn gauge<R: Wait>(&self, rt: &R, by: Pass<T>) -> (Pass<T>, Gauge)
+        requires { IsPassOf self.now by }
+        ensures of { IsPassOf self.now result.0 }
+        ensures gives { GaugeGives (room_of self.now) (laps_of self.now)
+            (pass_in by) (pass_in result.0) result.1 }
+        ensures answered { Answers (pass_in by) (pass_in result.0)
+            (GaugeAnswered result.1.closed result.1.used) }
+        ensures ran { WasRun self.now GaugeFirst (pass_in by) result.0 (AnswerGauge result.1.closed result.1.used) }
+    {
+        let Pass { pass, kept } = by;
+        let gauge = Operation::Gauge;
+        let begun = GaugeAt {
+            at: WalkAt::LoadHint(kept),
+        };
+        let first = first_step(&self.table.shared, self, pass, begun, &gauge);
+        whole(rt, self, first, gauge)
+    }
 
-/// A gauge that makes no step yet.
-#[inline]
-pub fn begin_gauge<T>(on: &RingQueue<T>, by: Pass<T>) -> GaugeOp<T>
-    requires { IsPassOf on.now by }
-    ensures { IsGauging on.now result
-        × (underway_of (machine_of on.now) result.pass ≡ no_step (pass_in by)) }
-{
-    let Pass { pass, kept: spare } = by;
-    let begun = GaugeAt {
-        at: WalkAt::LoadHint(spare),
-    };
-    Op::begin(on, pass, Operation::Gauge, begun)
+    /// Begins a gauge, and makes no step yet. If the operation is dropped, its pass goes with it, and
+    /// its cell stays reserved.
+    #[inline]
+    pub fn begin_gauge(&self, by: Pass<T>) -> GaugeOp<T>
+        requires { IsPassOf self.now by }
+        ensures { IsGauging self.now result
+            × (underway_of (machine_of self.now) result.pass ≡ no_step (pass_in by)) }
+    {
+        let Pass { pass, kept: spare } = by;
+        let begun = GaugeAt {
+            at: WalkAt::LoadHint(spare),
+        };
+        Op::begin(self, pass, Operation::Gauge, begun)
+    }
 }
 
 impl<T> Code<RingQueue<T>, T, SeatLine<T>, Operation<T>, Ringed, Answered<Gauge>, 0> for GaugeAt {
@@ -107,13 +110,15 @@ impl<T> Code<RingQueue<T>, T, SeatLine<T>, Operation<T>, Ringed, Answered<Gauge>
     }
 }
 
-impl<T> Call<RingQueue<T>, T, SeatLine<T>, Operation<T>, Ringed, Answered<Gauge>, 0> for GaugeAt {
+impl<T> Replies<RingQueue<T>, T, SeatLine<T>, Operation<T>, Ringed, Spare, Gauge, 0> for GaugeAt {
     ghost use Rattle.std.specs.Prelude.{refl};
-    ghost use Rattle.ring_queue.specs.KeepsGauge.{gauge_promises, gauge_keeps};
+    ghost use Rattle.ring_queue.specs.KeepsGauge.{gauge_given, gauge_promises};
 
-    ghost promises = { gauge_promises };
+    ghost gives = { gauge_promises };
 
     ghost idle = { λ key o answer. refl };
 
-    ghost keeps = { gauge_keeps };
+    ghost given = { gauge_given };
+
+    ghost kept = { λ key o answer. refl };
 }

@@ -1,13 +1,28 @@
 //! Looking whether a ring is empty: by steps, and by a whole call.
+ghost use Rattle.std.specs.Prelude.{◌≡◌};
+ghost use Rattle.bounded_model.specs.Laws.{Answers, LookGives};
+ghost use Rattle.bounded_model.specs.Stepping.{no_step};
+ghost use Rattle.bounded_model.specs.declared.commands.Command.TheVariants.{Look as LookCall};
+ghost use Rattle.bounded_model.specs.declared.views.Answered.TheVariants.{Look as LookAnswered};
+ghost use Rattle.running.specs.Kept.{WasRun};
+ghost use Rattle.running.specs.Ops.{underway_of};
+ghost use Rattle.ring_queue.specs.Calls.{is_call};
+ghost use Rattle.ring_queue.specs.Looking.{IsLooking, look_account};
+ghost use Rattle.ring_queue.specs.Ring.{IsPassOf, machine_of, pass_in, shape_of};
+ghost use Rattle.ring_queue.specs.Trying.{LookTried};
 
 use crate::call_parts::walking::{WalkAt, walk_access, walk_on};
-use crate::life::ring::{Answered, RingQueue};
+use crate::fast_paths::look_fast::look_fast;
+use crate::life::ring::{Answered, Pass, RingQueue};
+use crate::life::spare::Spare;
 use crate::rule::Ringed;
 use atomic_table::Seat;
+use bounded_model::Stepped;
 use machine::seats::View;
 use ring_table::layout::HEAD;
 use ring_table::{Operation, SeatLine};
-use running::{Access, Call, Code, Next, Op, Outcome};
+use running::{Access, Code, Next, Op, Outcome, Replies, leave, whole};
+use std::sync::Wait;
 
 /// A look that was begun.
 pub type LookOp<T> = Op<T, SeatLine<T>, Operation<T>, LookAt>;
@@ -16,6 +31,50 @@ pub type LookOp<T> = Op<T, SeatLine<T>, Operation<T>, LookAt>;
 #[derive(Clone, Copy)]
 pub struct LookAt {
     pub(crate) at: WalkAt,
+}
+
+impl<T> RingQueue<T> {
+    /// Begins a look, and makes no step yet. If the operation is dropped, its pass goes with it, and
+    /// its cell stays reserved.
+    #[inline]
+    pub fn begin_look(&self, by: Pass<T>) -> LookOp<T>
+        requires { IsPassOf self.now by }
+        ensures makes { IsLooking self.now result }
+        ensures begun { underway_of (machine_of self.now) result.pass ≡ no_step (pass_in by) }
+    {
+        let Pass { pass, kept } = by;
+        let begun = LookAt {
+            at: WalkAt::LoadHint(kept),
+        };
+        Op::begin(self, pass, Operation::Look, begun)
+    }
+
+    /// Whether the ring held no value at some time since its pass's last step before the call, also
+    /// if it is closed or shut. The call was a run of the machine's steps.
+    #[inline]
+    pub fn look<R: Wait>(&self, rt: &R, by: Pass<T>) -> (Pass<T>, bool)
+        requires { IsPassOf self.now by }
+        ensures of { IsPassOf self.now result.0 }
+        ensures gives { LookGives (shape_of self.now) (pass_in by) (pass_in result.0) result.1 }
+        ensures answered { Answers (pass_in by) (pass_in result.0) (LookAnswered result.1) }
+        ensures ran { WasRun (machine_of self.now) (look_account self.now.table.shared.key)
+            (is_call LookCall) (pass_in by) result.0 result.1 }
+    {
+        let look = Operation::Look;
+        let first = look_fast(self, by, &look);
+        whole(rt, self, first, look)
+    }
+
+    /// Looks on the fast path alone, as `put_at_once` puts. The answers are those of `look`.
+    #[inline(always)]
+    pub fn look_at_once(&self, by: Pass<T>) -> Stepped<LookOp<T>, Pass<T>, bool>
+        requires { IsPassOf self.now by }
+        ensures { LookTried self.now (pass_in by) result }
+    {
+        let look = Operation::Look;
+        let first = look_fast(self, by, &look);
+        leave(self, first, look)
+    }
 }
 
 impl<T> Code<RingQueue<T>, T, SeatLine<T>, Operation<T>, Ringed, Answered<bool>, 0> for LookAt {
@@ -46,12 +105,15 @@ impl<T> Code<RingQueue<T>, T, SeatLine<T>, Operation<T>, Ringed, Answered<bool>,
     }
 }
 
-impl<T> Call<RingQueue<T>, T, SeatLine<T>, Operation<T>, Ringed, Answered<bool>, 0> for LookAt {
+impl<T> Replies<RingQueue<T>, T, SeatLine<T>, Operation<T>, Ringed, Spare, bool, 0> for LookAt {
     ghost use Rattle.std.specs.Prelude.{refl};
+    ghost use Rattle.ring_queue.specs.KeepsAnswers.{look_given, look_promises};
 
-    ghost promises = { λ key o begun now answer. Unit {0} };
+    ghost gives = { look_promises };
 
     ghost idle = { λ key o answer. refl };
 
-    ghost keeps = { λ key at view begun answer ended. tt };
+    ghost given = { look_given };
+
+    ghost kept = { λ key o answer. refl };
 }

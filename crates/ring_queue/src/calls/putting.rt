@@ -1,26 +1,34 @@
 //! Putting one value: by steps, and by a whole call. From the first step on the value is in the slot
 //! of the spare cell, and a snapshot shows it to proofs.
 ghost use Rattle.std.specs.Prelude.{◌≡◌, ◌*◌};
+ghost use Rattle.bounded_model.specs.Laws.{Answers, PutGives, put_answered};
+ghost use Rattle.bounded_model.specs.Stepping.{no_step};
+ghost use Rattle.bounded_model.specs.declared.commands.Command.TheVariants.{Put as PutCall};
+ghost use Rattle.running.specs.Kept.{WasRun};
+ghost use Rattle.running.specs.Ops.{underway_of};
 ghost use Rattle.ring_machine.specs.declared.lines.Call.TheVariants.{Put as CallPut};
 ghost use Rattle.ring_table.specs.Lines.{call_of};
-ghost use Rattle.ring_queue.specs.Calls.{put_of};
-ghost use Rattle.ring_queue.specs.Putting.{has_room, refused_at};
-ghost use Rattle.ring_queue.specs.Ring.{laps_of};
+ghost use Rattle.ring_queue.specs.Calls.{is_call, put_of};
+ghost use Rattle.ring_queue.specs.Putting.{IsPutting, has_room, put_account, refused_at};
+ghost use Rattle.ring_queue.specs.Ring.{IsPassOf, laps_of, machine_of, pass_in, shape_of};
+ghost use Rattle.ring_queue.specs.Trying.{PutTried};
 
 use crate::call_parts::walking::{
     Found, STRIDE, Walk, WalkAt, behind, place_of, slot_of, walk_access, walk_on,
 };
-use crate::life::ring::{Answered, RingQueue};
+use crate::fast_paths::put_fast::put_fast;
+use crate::life::ring::{Answered, Pass, RingQueue};
 use crate::life::spare::Spare;
 use crate::rule::Ringed;
 use atomic_table::Seat;
-use bounded_model::{PutRefused, Word};
+use bounded_model::{PutRefused, Stepped, Word};
 use index_list::{move_out, put_in};
 use machine::seats::View;
 use ring_table::layout::TAIL;
 use ring_table::{Operation, SeatLine};
-use running::{Access, Call, Code, Next, Op, Outcome, raised};
+use running::{Access, Code, Next, Op, Outcome, Replies, leave, raised, told, whole};
 use std::snapshot::Snapshot;
+use std::sync::Wait;
 use tagged_index::Tagged;
 
 /// A put that was begun.
@@ -80,6 +88,72 @@ fn has_room<T>(on: &RingQueue<T>, end: &Found) -> bool
     ensures { result ≡ has_room (laps_of on.now) end.now.walk.at end.now.slot }
 {
     !end.slot.is_marked() && end.slot.tag() == end.walk.empty && end.slot.tag() + 1 < tag_limit(on)
+}
+
+impl<T> RingQueue<T> {
+    /// Begins a put of this value, and makes no step yet. If the operation is dropped, its pass goes
+    /// with it, and its cell stays reserved.
+    #[inline]
+    pub fn begin_put(&self, by: Pass<T>, value: T) -> PutOp<T>
+        requires { IsPassOf self.now by }
+        ensures makes { IsPutting self.now value result }
+        ensures begun { underway_of (machine_of self.now) result.pass ≡ no_step (pass_in by) }
+    {
+        let Pass { pass, kept } = by;
+        let put = put_operation(&value);
+        Op::begin(self, pass, put, PutAt::FetchTail(kept, value))
+    }
+
+    /// Puts a value. The call retries while others interfere.
+    /// - `Ok`: the put's number. Puts count 0, 1, 2, ….
+    /// - `Full`: the ring was open, and each cell held a value or was in a pass's hand.
+    /// - `Closed`: it was closed.
+    /// - `Spent`: it is worn out for good. The word is `Next`, with the slot at the back.
+    ///
+    /// Each refusal hands the value back. The call was a run of the machine's steps.
+    #[inline(always)]
+    pub fn put<R: Wait>(
+        &self,
+        rt: &R,
+        by: Pass<T>,
+        value: T,
+    ) -> (Pass<T>, Result<u64, PutRefused<T>>)
+        requires { IsPassOf self.now by }
+        ensures of { IsPassOf self.now result.0 }
+        ensures gives { PutGives (shape_of self.now) (pass_in by) value (pass_in result.0)
+            result.1 }
+        ensures answered { Answers (pass_in by) (pass_in result.0) (put_answered result.1) }
+        ensures ran { WasRun (machine_of self.now) (put_account self.now.table.shared.key)
+            (is_call (PutCall value)) (pass_in by) result.0 result.1 }
+    {
+        let put = put_operation(&value);
+        // Looked at here, before a call copies it, so that the answer need not go through memory.
+        match put_fast(self, by, value, &put) {
+            (pass, Next::Done(answer)) => told(pass, answer),
+            under_way => whole(rt, self, under_way, put),
+        }
+    }
+
+    /// Puts a value on the fast path alone, with a wait if a compare-and-swap failed. If this does
+    /// not end the put, it comes back under way. The answers are those of `put`.
+    #[inline(always)]
+    pub fn put_at_once(
+        &self,
+        by: Pass<T>,
+        value: T,
+    ) -> Stepped<PutOp<T>, Pass<T>, Result<u64, PutRefused<T>>>
+        requires { IsPassOf self.now by }
+        ensures { PutTried self.now value (pass_in by) result }
+    {
+        let put = put_operation(&value);
+        match put_fast(self, by, value, &put) {
+            (pass, Next::Done(answer)) => {
+                let (back, reply) = told(pass, answer);
+                Stepped::Done(back, reply)
+            }
+            under_way => leave(self, under_way, put),
+        }
+    }
 }
 
 impl<T> Code<RingQueue<T>, T, SeatLine<T>, Operation<T>, Ringed, Answered<Answer<T>>, 0>
@@ -171,13 +245,16 @@ impl<T> Code<RingQueue<T>, T, SeatLine<T>, Operation<T>, Ringed, Answered<Answer
     }
 }
 
-impl<T> Call<RingQueue<T>, T, SeatLine<T>, Operation<T>, Ringed, Answered<Answer<T>>, 0>
+impl<T> Replies<RingQueue<T>, T, SeatLine<T>, Operation<T>, Ringed, Spare, Answer<T>, 0>
     for PutAt<T> {
     ghost use Rattle.std.specs.Prelude.{refl};
+    ghost use Rattle.ring_queue.specs.KeepsAnswers.{put_given, put_promises};
 
-    ghost promises = { λ key o begun now answer. Unit {0} };
+    ghost gives = { put_promises };
 
     ghost idle = { λ key o answer. refl };
 
-    ghost keeps = { λ key at view begun answer ended. tt };
+    ghost given = { put_given };
+
+    ghost kept = { λ key o answer. refl };
 }

@@ -1,20 +1,32 @@
 //! Taking one value: by steps, and by a whole call.
+ghost use Rattle.bounded_model.specs.Laws.{Answers, TakeGives};
+ghost use Rattle.bounded_model.specs.Stepping.{no_step};
+ghost use Rattle.bounded_model.specs.declared.commands.Command.TheVariants.{Take as TakeCall};
+ghost use Rattle.bounded_model.specs.declared.views.Answered.TheVariants.{Take as TakeAnswered};
+ghost use Rattle.running.specs.Kept.{WasRun};
+ghost use Rattle.running.specs.Ops.{underway_of};
+ghost use Rattle.ring_queue.specs.Calls.{is_call};
+ghost use Rattle.ring_queue.specs.Ring.{IsPassOf, machine_of, pass_in, shape_of};
+ghost use Rattle.ring_queue.specs.Taking.{IsTaking, take_account};
+ghost use Rattle.ring_queue.specs.Trying.{TakeTried};
 ghost use Rattle.std.specs.Prelude.{◌≡◌};
 ghost use Rattle.ring_queue.specs.Taking.{refusal_at};
 
 use crate::call_parts::walking::{
     Found, STRIDE, Walk, WalkAt, behind, place_of, slot_of, walk_access, walk_on,
 };
-use crate::life::ring::{Answered, RingQueue};
+use crate::fast_paths::take_fast::take_fast;
+use crate::life::ring::{Answered, Pass, RingQueue};
 use crate::life::spare::Spare;
 use crate::rule::Ringed;
 use atomic_table::Seat;
-use bounded_model::TakeRefused;
+use bounded_model::{Stepped, TakeRefused};
 use index_list::move_out;
 use machine::seats::View;
 use ring_table::layout::HEAD;
 use ring_table::{Operation, SeatLine};
-use running::{Access, Call, Code, Next, Op, Outcome, raised};
+use running::{Access, Code, Next, Op, Outcome, Replies, leave, raised, told, whole};
+use std::sync::Wait;
 
 /// A take that was begun.
 pub type TakeOp<T> = Op<T, SeatLine<T>, Operation<T>, TakeAt<T>>;
@@ -51,6 +63,65 @@ fn refusal(end: &Found) -> Option<TakeRefused>
         return Some(TakeRefused::Closed);
     }
     Some(TakeRefused::Empty)
+}
+
+impl<T> RingQueue<T> {
+    /// Begins a take, and makes no step yet. If the operation is dropped, its pass goes with it, and
+    /// its cell stays reserved.
+    #[inline]
+    pub fn begin_take(&self, by: Pass<T>) -> TakeOp<T>
+        requires { IsPassOf self.now by }
+        ensures makes { IsTaking self.now result }
+        ensures begun { underway_of (machine_of self.now) result.pass ≡ no_step (pass_in by) }
+    {
+        let Pass { pass, kept } = by;
+        let begun = TakeAt::Walking(WalkAt::LoadHint(kept));
+        Op::begin(self, pass, Operation::Take, begun)
+    }
+
+    /// Takes a value. The call retries while others interfere.
+    /// - `Ok`: the value, and the take's number.
+    /// - `Shut`: the ring was shut.
+    /// - `Closed`: it held no value, and was closed and not shut.
+    /// - `Empty`: it held no value, and was neither closed nor shut.
+    ///
+    /// It is never `Spent`. The call was a run of the machine's steps.
+    #[inline(always)]
+    pub fn take<R: Wait>(&self, rt: &R, by: Pass<T>) -> (Pass<T>, Result<(T, u64), TakeRefused>)
+        requires { IsPassOf self.now by }
+        ensures of { IsPassOf self.now result.0 }
+        ensures gives { TakeGives (shape_of self.now) (pass_in by) (pass_in result.0) result.1 }
+        ensures answered { Answers (pass_in by) (pass_in result.0) (TakeAnswered result.1) }
+        ensures ran { WasRun (machine_of self.now) (take_account self.now.table.shared.key)
+            (is_call TakeCall) (pass_in by) result.0 result.1 }
+    {
+        let take = Operation::Take;
+        // Looked at here for the same reason as in `put`.
+        match take_fast(self, by, &take) {
+            (pass, Next::Done(answer)) => told(pass, answer),
+            under_way => whole(rt, self, under_way, take),
+        }
+    }
+
+    /// Takes a value on the fast path alone, as `put_at_once` puts one. The answers are those of
+    /// `take`.
+    #[inline(always)]
+    pub fn take_at_once(
+        &self,
+        by: Pass<T>,
+    ) -> Stepped<TakeOp<T>, Pass<T>, Result<(T, u64), TakeRefused>>
+        requires { IsPassOf self.now by }
+        ensures { TakeTried self.now (pass_in by) result }
+    {
+        let take = Operation::Take;
+        match take_fast(self, by, &take) {
+            (pass, Next::Done(answer)) => {
+                let (back, reply) = told(pass, answer);
+                Stepped::Done(back, reply)
+            }
+            under_way => leave(self, under_way, take),
+        }
+    }
 }
 
 impl<T> Code<RingQueue<T>, T, SeatLine<T>, Operation<T>, Ringed, Answered<Answer<T>>, 0>
@@ -121,13 +192,16 @@ impl<T> Code<RingQueue<T>, T, SeatLine<T>, Operation<T>, Ringed, Answered<Answer
     }
 }
 
-impl<T> Call<RingQueue<T>, T, SeatLine<T>, Operation<T>, Ringed, Answered<Answer<T>>, 0>
+impl<T> Replies<RingQueue<T>, T, SeatLine<T>, Operation<T>, Ringed, Spare, Answer<T>, 0>
     for TakeAt<T> {
     ghost use Rattle.std.specs.Prelude.{refl};
+    ghost use Rattle.ring_queue.specs.KeepsAnswers.{take_given, take_promises};
 
-    ghost promises = { λ key o begun now answer. Unit {0} };
+    ghost gives = { take_promises };
 
     ghost idle = { λ key o answer. refl };
 
-    ghost keeps = { λ key at view begun answer ended. tt };
+    ghost given = { take_given };
+
+    ghost kept = { λ key o answer. refl };
 }

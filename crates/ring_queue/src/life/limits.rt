@@ -36,8 +36,8 @@ impl RingLimits {
     ghost use Rattle.tagged_index.specs.declared.limit.TheConstants.{MIN_CAPACITY};
     ghost use Rattle.ring_queue.specs.declared.life.limits.TheConstants.{MIN_LAPS, MAX_LAPS};
 
-    /// `None` exactly if there is no slot, the slots and the passes together are too many, or the
-    /// number of laps or of passes is out of range.
+    /// `None` exactly if the capacity is 0, the capacity and the passes together are above
+    /// 1,048,575, the laps are not 1 to `MAX_LAPS`, or the passes are not 2 to 65,535.
     pub fn of(capacity: u32, laps: u64, passes: u32) -> Option<RingLimits>
         ensures in_range { IsSome result
             ↔ ((MIN_CAPACITY ≤ capacity) × (capacity + passes ≤ NULL)

@@ -4,7 +4,8 @@ ghost use Rattle.tagged_index.specs.declared.word.TheConstants.{NULL};
 ghost use Rattle.bounded_model.specs.Laws.{fresh};
 ghost use Rattle.ring_table.specs.Layout.{words_for, start_at};
 ghost use Rattle.ring_table.specs.Seats.{cells_from};
-ghost use Rattle.ring_queue.specs.Ring.{cells_of};
+ghost use Rattle.ring_queue.specs.Limits.{shape_at};
+ghost use Rattle.ring_queue.specs.Ring.{cells_of, shape_of};
 ghost use Rattle.ring_queue.specs.Roots.{IsRootOf, root_in};
 
 use crate::life::limits::RingLimits;
@@ -44,22 +45,24 @@ fn first_spares(alloc: Global, capacity: u32, passes: u32) -> Result<Vec<Spare>,
     Ok(spares)
 }
 
-/// An empty ring, and its root.
-pub(crate) fn make<T>(
-    alloc: Global,
-    limits: RingLimits,
-) -> Result<(RingQueue<T>, Root<T>), MakeRefused>
-    ensures { IfOk result (λ t. (t.0.table.shared.key ≡ limits.limits)
-        × IsRootOf t.0 t.1 × (root_in t.1 ≡ fresh)) }
-{
-    let capacity = limits.capacity();
-    let passes = limits.passes();
-    let limits = limits.limits;
-    let words = first_words(alloc, capacity)?;
-    let spares = first_spares(alloc, capacity, passes)?;
-    let count = (capacity + passes) as usize;
-    let (table, seat) = Table::vacant(alloc, words.as_slice(), count, &limits)?;
-    let root = running::Root { seat, out: 0 };
-    let stock = spares;
-    Ok((RingQueue { table, limits }, Root { root, stock }))
+impl<T> RingQueue<T> {
+    /// An empty ring, open and not shut, and its root, which has given no pass. It has the capacity,
+    /// the laps and the passes of `limits`. The call takes all memory that the ring ever uses.
+    /// `NoMemory` if the allocator has not enough.
+    pub fn new(alloc: Global, limits: RingLimits) -> Result<(RingQueue<T>, Root<T>), MakeRefused>
+        ensures { IfOk result (λ t. (t.0.table.shared.key ≡ limits.limits)
+            × IsRootOf t.0 t.1 × (root_in t.1 ≡ fresh)
+            × (shape_of t.0 ≡ shape_at T limits.limits)) }
+    {
+        let capacity = limits.capacity();
+        let passes = limits.passes();
+        let limits = limits.limits;
+        let words = first_words(alloc, capacity)?;
+        let spares = first_spares(alloc, capacity, passes)?;
+        let count = (capacity + passes) as usize;
+        let (table, seat) = Table::vacant(alloc, words.as_slice(), count, &limits)?;
+        let root = running::Root { seat, out: 0 };
+        let stock = spares;
+        Ok((RingQueue { table, limits }, Root { root, stock }))
+    }
 }

@@ -1,34 +1,73 @@
 //! The ring, its passes and its root.
-use crate::calls::closing::{CloseOp, ShutOp};
-use crate::calls::looking::LookOp;
-use crate::calls::putting::PutOp;
-use crate::calls::taking::TakeOp;
+ghost use Rattle.std.specs.Prelude.{◌≡◌, ◌+◌, ◌<◌, ◌≤◌};
+ghost use Rattle.bounded_model.specs.declared.container.TheConstants.{MIN_PASSES, MAX_PASSES};
+ghost use Rattle.ring_table.specs.Layout.{words_for};
+ghost use Rattle.tagged_index.specs.Limits.{capacity_of, passes_of};
+ghost use Rattle.tagged_index.specs.declared.word.TheConstants.{NULL};
+
 use crate::life::spare::Spare;
 use crate::rule::Ringed;
-use bounded::Bounded;
-use bounded_model::Operation as AnyCall;
+use atomic_table::{Shared, Table};
+use machine::View;
 use ring_table::{Operation, SeatLine};
+use running::{HasTable, Keeping, OnTable, Running};
+use std::alloc::Global;
+use tagged_index::Limits;
 
-/// A bounded queue that many threads share.
-pub type RingQueue<T> = Bounded<T, SeatLine<T>, Operation<T>, Ringed, 0>;
+/// A bounded queue, first in, first out, for a number of passes that is fixed when it is made.
+#[derive(Drop)]
+pub struct RingQueue<T> {
+    /// The words and values. Only calls change them.
+    pub table: Table<
+        Option<T>,
+        View<T, SeatLine<T>>,
+        Limits,
+        Running<Operation<T>, Ringed>,
+        Global,
+    >,
+    /// What it was made with: the key of its table.
+    pub limits: Limits,
+    pub ghost keyed: { table.shared.key ≡ limits },
+    pub ghost some_word: { 0 < table.shared.table_id.words },
+    pub ghost words: { table.shared.table_id.words ≡ words_for (capacity_of table.shared.key) },
+    pub ghost slots: { table.shared.table_id.slots
+        ≡ capacity_of table.shared.key + passes_of table.shared.key },
+    pub ghost small: { capacity_of table.shared.key + passes_of table.shared.key ≤ NULL },
+    pub ghost some_passes: { MIN_PASSES ≤ passes_of table.shared.key },
+    pub ghost few_passes: { passes_of table.shared.key ≤ MAX_PASSES },
+}
 
-/// Steps on a ring. At run time it is what the ring's calls know of their caller, and which cell is
-/// its spare one.
-pub type Pass<T> = bounded::Pass<T, SeatLine<T>, Spare>;
+/// A thread's right to call a ring, one call at a time. It has eight bytes: four by which its calls
+/// know whether to wait, and the number of its spare cell.
+pub type Pass<T> = running::PassWith<T, SeatLine<T>, Spare>;
 
-/// Gives passes and takes them back. Its stock is the spare cells of the passes that are not out.
-/// The root gives the last one next.
-pub type Root<T> = bounded::Root<T, SeatLine<T>, Vec<Spare>>;
+/// Comes with a new ring, gives passes and takes them back. `finish` needs it. Its stock is the
+/// spare cells of the passes that are not out. The root gives the last one next.
+pub type Root<T> = running::RootWith<T, SeatLine<T>, Vec<Spare>>;
 
-/// What a pass had seen as it was made. It has no bytes.
+/// What a pass had seen when the note was made. It has no bytes.
 pub type Note<T> = running::Note<T, SeatLine<T>>;
 
 /// What an operation has answered, and which cell is the spare one of its pass now.
-pub type Answered<R> = bounded::Answered<Spare, R>;
+pub type Answered<R> = running::Answered<Spare, R>;
 
-/// A call of a ring that was begun. It is a type of its own, since the prover then compares its
-/// name, not the types of its five kinds of calls.
-#[derive(Drop)]
-pub struct AnyOp<T> {
-    pub call: AnyCall<PutOp<T>, TakeOp<T>, CloseOp<T>, ShutOp<T>, LookOp<T>>,
+impl<T> OnTable for RingQueue<T> {
+    ghost key = { λ c. c.table.shared.key };
+
+    ghost id = { λ c. c.table.shared.table_id };
+}
+
+impl<T> HasTable<T, SeatLine<T>, Operation<T>, Ringed> for RingQueue<T> {
+    #[inline(always)]
+    fn table(
+        &self,
+    ) -> &Shared<Option<T>, View<T, SeatLine<T>>, Limits, Running<Operation<T>, Ringed>> {
+        &self.table.shared
+    }
+}
+
+impl<T> Keeping<SeatLine<T>, Spare> for RingQueue<T> {
+    ghost use Rattle.ring_queue.specs.Ring.{keeps};
+
+    ghost keeps = { keeps };
 }

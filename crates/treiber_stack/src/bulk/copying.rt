@@ -183,7 +183,7 @@ fn empty_nodes<T: Copy>(
 /// Continues the put with the values that it was begun with. It makes at most `steps` steps to
 /// take each node, `steps` to put them onto the top and `steps` to give them back; a node that
 /// is linked, or emptied, is one more. It waits after each compare-and-swap that failed. The
-/// contract does not bound the steps.
+/// contract does not bound the steps. A step is one atomic access.
 pub fn run_copies_for<T: Copy>(
     on: &Stack<T>,
     op: RangeOp<T>,

@@ -59,7 +59,8 @@ pub fn begin_fold_reversed<T>(on: &Stack<T>, by: Pass<T>) -> FoldOp<T>
 
 /// Continues a fold until the next value or the end, for at most `steps` steps. It waits after
 /// each compare-and-swap that failed. One compare-and-swap takes all values, so a value
-/// that is put after it is not among them.
+/// that is put after it is not among them. `Again` comes after exactly `steps` steps, a value or
+/// the end after at most `steps`. A step is one atomic access.
 #[inline]
 pub fn run_fold_for<T>(on: &Stack<T>, fold: FoldOp<T>, steps: u64) -> FoldMade<T>
     requires { (front : Front) × (values : List T) × IsFolding on.now front values fold }

@@ -78,46 +78,50 @@ pub(crate) enum FoldStop<T> {
     Refused(TakeRefused),
 }
 
-/// Takes all values by one compare-and-swap, and folds them from the top down. Returns the last
-/// state. A refusal is as that of a take, and returns the state that was handed in. Called in
-/// `stack_tests`.
-pub fn fold_all_atomic<T, R: Wait, S, F: Fn(S, T) -> S + Drop>(
-    on: &Stack<T>,
-    rt: &R,
-    by: Pass<T>,
-    state: S,
-    f: F,
-) -> (Pass<T>, S, Result<Folded, TakeRefused>)
-    requires pass { IsPassOf on.now by }
-    requires call { F.IsAlwaysCallable f }
-    ensures of { IsPassOf on.now result.0 }
-    ensures gives { FoldsAll (call_of on.now by result.0)
-        (λ values. Folds (λ s x t. F.post f s x t) state values result.1)
-        (result.1 ≡ state) result.2 }
-    ensures answered { FoldAnswers First result.2 (pass_in by) (pass_in result.0) }
-    ensures ran { WasFolded on.now (FoldFirst First) (pass_in by) result.0 result.2 }
-{
-    fold(on, rt, by, Front::First, state, f)
+impl<T> Stack<T> {
+    /// Takes all values by one compare-and-swap, and folds them from the top down. Returns the last
+    /// state. A refusal is as that of a take, and returns the state that was handed in. Called in
+    /// `example_buffers`.
+    pub fn fold_all_atomic<R: Wait, S, F: Fn(S, T) -> S + Drop>(
+        &self,
+        rt: &R,
+        by: Pass<T>,
+        state: S,
+        f: F,
+    ) -> (Pass<T>, S, Result<Folded, TakeRefused>)
+        requires pass { IsPassOf self.now by }
+        requires call { F.IsAlwaysCallable f }
+        ensures of { IsPassOf self.now result.0 }
+        ensures gives { FoldsAll (call_of self.now by result.0)
+            (λ values. Folds (λ s x t. F.post f s x t) state values result.1)
+            (result.1 ≡ state) result.2 }
+        ensures answered { FoldAnswers First result.2 (pass_in by) (pass_in result.0) }
+        ensures ran { WasFolded self.now (FoldFirst First) (pass_in by) result.0 First result.2 }
+    {
+        fold(self, rt, by, Front::First, state, f)
+    }
 }
 
-/// As `fold_all_atomic`, from the bottom up.
-pub fn fold_all_atomic_reversed<T, R: Wait, S, F: Fn(S, T) -> S + Drop>(
-    on: &Stack<T>,
-    rt: &R,
-    by: Pass<T>,
-    state: S,
-    f: F,
-) -> (Pass<T>, S, Result<Folded, TakeRefused>)
-    requires pass { IsPassOf on.now by }
-    requires call { F.IsAlwaysCallable f }
-    ensures of { IsPassOf on.now result.0 }
-    ensures gives { FoldsAll (call_of on.now by result.0)
-        (λ values. Folds (λ s x t. F.post f s x t) state (reverse values) result.1)
-        (result.1 ≡ state) result.2 }
-    ensures answered { FoldAnswers Last result.2 (pass_in by) (pass_in result.0) }
-    ensures ran { WasFolded on.now (FoldFirst Last) (pass_in by) result.0 result.2 }
-{
-    fold(on, rt, by, Front::Last, state, f)
+impl<T> Stack<T> {
+    /// As `fold_all_atomic`, from the bottom up.
+    pub fn fold_all_atomic_reversed<R: Wait, S, F: Fn(S, T) -> S + Drop>(
+        &self,
+        rt: &R,
+        by: Pass<T>,
+        state: S,
+        f: F,
+    ) -> (Pass<T>, S, Result<Folded, TakeRefused>)
+        requires pass { IsPassOf self.now by }
+        requires call { F.IsAlwaysCallable f }
+        ensures of { IsPassOf self.now result.0 }
+        ensures gives { FoldsAll (call_of self.now by result.0)
+            (λ values. Folds (λ s x t. F.post f s x t) state (reverse values) result.1)
+            (result.1 ≡ state) result.2 }
+        ensures answered { FoldAnswers Last result.2 (pass_in by) (pass_in result.0) }
+        ensures ran { WasFolded self.now (FoldFirst Last) (pass_in by) result.0 Last result.2 }
+    {
+        fold(self, rt, by, Front::Last, state, f)
+    }
 }
 
 fn fold<T, R: Wait, S, F: Fn(S, T) -> S + Drop>(
@@ -136,7 +140,7 @@ fn fold<T, R: Wait, S, F: Fn(S, T) -> S + Drop>(
         result.1)
         (result.1 ≡ state) result.2 }
     ensures answered { FoldAnswers front result.2 (pass_in by) (pass_in result.0) }
-    ensures ran { WasFolded on.now (FoldFirst front) (pass_in by) result.0 result.2 }
+    ensures ran { WasFolded on.now (FoldFirst front) (pass_in by) result.0 front result.2 }
 {
     let table = &on.table.shared;
     let Pass { mut pass, .. } = by;

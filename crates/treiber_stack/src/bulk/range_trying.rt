@@ -53,7 +53,8 @@ pub fn begin_range<T>(
 /// that failed. It makes at most `steps` steps to take each node, `steps` to put them onto the
 /// top and `steps` to give them back. A node that is linked, or whose value goes back, is one
 /// step more. If the range ends, it returns what `put_range` does, and leaves the places so.
-/// The contract does not bound a part in which the range is first refused or turns back.
+/// The contract does not bound a part in which the range is first refused or turns back. A step is
+/// one atomic access.
 pub fn run_range_for<T>(
     on: &Stack<T>,
     op: RangeOp<T>,

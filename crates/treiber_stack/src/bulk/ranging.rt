@@ -42,26 +42,28 @@ pub(crate) fn name_of<T>(values: &[Option<T>]) -> Option<Operation<T>>
     }
 }
 
-/// Puts a value for each node that it gets, from the front, by one compare-and-swap. The last of them is
-/// the new top, and their places are then `None`. A refusal leaves every place as it was: it is `Nothing`
-/// for an empty range, else as that of a put. The call, if the range is not empty, was one run of the
-/// machine's steps. Called in `stack_tests`.
-pub fn put_range<T, R: Wait>(
-    on: &Stack<T>,
-    rt: &R,
-    by: Pass<T>,
-    values: &mut [Option<T>],
-) -> (Pass<T>, Result<Ranged, RangeRefused>)
-    requires pass { IsPassOf on.now by }
-    requires values { Every (λ place. IsSome place) values.old }
-    ensures of { IsPassOf on.now result.0 }
-    ensures gives { PutsRange (call_of on.now by result.0) values.old values.new result.1 }
-    ensures answered { RangeAnswers (somes values.old) result.1 (pass_in by) (pass_in result.0) }
-    ensures ran { WasRange on.now (pass_in by) (somes values.old) result.1 result.0 }
-{
-    match begin_range(on, by, values) {
-        Stepped::Again(begun) => put_values(on, rt, begun, values),
-        Stepped::Done(pass, answer) => (pass, answer),
+impl<T> Stack<T> {
+    /// Puts a value for each node that it gets, from the front, by one compare-and-swap. The last of them is
+    /// the new top, and their places are then `None`. A refusal leaves every place as it was: it is `Nothing`
+    /// for an empty range, else as that of a put. The call, if the range is not empty, was one run of the
+    /// machine's steps. Called in `example_stack`.
+    pub fn put_range<R: Wait>(
+        &self,
+        rt: &R,
+        by: Pass<T>,
+        values: &mut [Option<T>],
+    ) -> (Pass<T>, Result<Ranged, RangeRefused>)
+        requires pass { IsPassOf self.now by }
+        requires values { Every (λ place. IsSome place) values.old }
+        ensures of { IsPassOf self.now result.0 }
+        ensures gives { PutsRange (call_of self.now by result.0) values.old values.new result.1 }
+        ensures answered { RangeAnswers (somes values.old) result.1 (pass_in by) (pass_in result.0) }
+        ensures ran { WasRange self.now (pass_in by) (somes values.old) result.1 result.0 }
+    {
+        match begin_range(self, by, values) {
+            Stepped::Again(begun) => put_values(self, rt, begun, values),
+            Stepped::Done(pass, answer) => (pass, answer),
+        }
     }
 }
 

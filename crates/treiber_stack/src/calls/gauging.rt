@@ -22,29 +22,31 @@ pub struct Gauge {
     pub used: u64,
 }
 
-/// Whether the stack was closed, and how many tags were used, both at one time since its pass's
-/// last step before the call. The call is one load of the top. Called in `example_stack`.
-#[inline]
-pub fn read_gauge<T>(on: &Stack<T>, by: Pass<T>) -> (Pass<T>, Gauge)
-    requires { IsPassOf on.now by }
-    ensures of { IsPassOf on.now result.0 }
-    ensures gives { GaugeGives (room_of on.now) (limit_of on.now)
-        (pass_in by) (pass_in result.0) result.1 }
-    ensures answered { Answers (pass_in by) (pass_in result.0)
-        (GaugeAnswered result.1.closed result.1.used) }
-    ensures line { OneLine on.now by.pass result.0.pass LoadTopToGauge
-        (ends (Gauged result.1.closed result.1.used)) }
-{
-    let Pass { mut pass, kept } = by;
-    let top = load_top_step(
-        &on.table.shared,
-        &mut pass.seat,
-        STACK_LIST,
-        &Operation::Gauge,
-    );
-    let gauge = Gauge {
-        closed: top.is_marked(),
-        used: top.tag(),
-    };
-    (Pass { pass, kept }, gauge)
+impl<T> Stack<T> {
+    /// Whether the stack was closed, and how many tags were used, both at one time since its pass's
+    /// last step before the call. The call is one load of the top. Called in `example_stack`.
+    #[inline]
+    pub fn gauge(&self, by: Pass<T>) -> (Pass<T>, Gauge)
+        requires { IsPassOf self.now by }
+        ensures of { IsPassOf self.now result.0 }
+        ensures gives { GaugeGives (room_of self.now) (limit_of self.now)
+            (pass_in by) (pass_in result.0) result.1 }
+        ensures answered { Answers (pass_in by) (pass_in result.0)
+            (GaugeAnswered result.1.closed result.1.used) }
+        ensures line { OneLine self.now by.pass result.0.pass LoadTopToGauge
+            (ends (Gauged result.1.closed result.1.used)) }
+    {
+        let Pass { mut pass, kept } = by;
+        let top = load_top_step(
+            &self.table.shared,
+            &mut pass.seat,
+            STACK_LIST,
+            &Operation::Gauge,
+        );
+        let gauge = Gauge {
+            closed: top.is_marked(),
+            used: top.tag(),
+        };
+        (Pass { pass, kept }, gauge)
+    }
 }

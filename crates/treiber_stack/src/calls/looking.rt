@@ -1,23 +1,38 @@
 //! Looking whether a stack is empty: one load of its top. By steps, and by a whole call.
 ghost use Rattle.std.specs.Prelude.{◌≡◌};
 ghost use Rattle.bounded_model.specs.Laws.{Answers, LookGives};
+ghost use Rattle.bounded_model.specs.Stepping.{no_step};
+ghost use Rattle.bounded_model.specs.declared.commands.Command.TheVariants.{Look as LookCall};
 ghost use Rattle.bounded_model.specs.declared.views.Answered.TheVariants.{Look as LookAnswered};
+ghost use Rattle.running.specs.Kept.{WasRun as WasRunBy};
+ghost use Rattle.running.specs.Ops.{underway_of};
 ghost use Rattle.stack_machine.specs.Machine.{ends};
 ghost use Rattle.stack_machine.specs.declared.lines.Answer.TheVariants.{Look as Looked};
 ghost use Rattle.stack_machine.specs.declared.lines.Line.TheVariants.{LoadTopToLook};
 ghost use Rattle.stack_table.specs.declared.operation.Operation.TheVariants.{Look as LookFirst};
-ghost use Rattle.treiber_stack.specs.Looking.{HasLooked};
+ghost use Rattle.treiber_stack.specs.Calls.{is_call};
+ghost use Rattle.treiber_stack.specs.Looking.{HasLooked, IsLooking, LookRan, look_account};
 ghost use Rattle.treiber_stack.specs.Ran.{WasRun};
-ghost use Rattle.treiber_stack.specs.Stack.{shape_of, IsPassOf, IsSeatOf, pass_in, OneLine};
+ghost use Rattle.treiber_stack.specs.Stack.{
+  IsPassOf,
+  IsSeatOf,
+  OneLine,
+  machine_of,
+  pass_in,
+  shape_of,
+};
+ghost use Rattle.treiber_stack.specs.Trying.{LookTried};
 
 use crate::life::stack::{Answered, Pass, Stack};
 use crate::rule::Stacked;
 use atomic_table::Seat;
+use bounded_model::Stepped;
 use machine::View;
-use running::{Access, Call, Code, Next, Op, Outcome, load_top_step};
+use running::{Access, Code, Next, Op, Outcome, Replies, leave, load_top_step, whole};
 use stack_machine::Line;
 use stack_table::Operation;
 use stack_table::layout::STACK_LIST;
+use std::sync::Wait;
 use tagged_index::{NULL, Tagged};
 
 /// A look that was begun.
@@ -30,20 +45,80 @@ pub enum LookAt {
     Load,
 }
 
-/// Whether the stack is empty: one load of its top, which is a run of the machine's steps. Called
-/// in `example_stack`.
-#[inline]
-pub fn is_empty<T>(on: &Stack<T>, by: Pass<T>) -> (Pass<T>, bool)
-    requires { IsPassOf on.now by }
-    ensures of { IsPassOf on.now result.0 }
-    ensures gives { LookGives (shape_of on.now) (pass_in by) (pass_in result.0) result.1 }
-    ensures line { OneLine on.now by.pass result.0.pass LoadTopToLook (ends (Looked result.1)) }
-    ensures answered { Answers (pass_in by) (pass_in result.0) (LookAnswered result.1) }
-    ensures ran { WasRun on.now LookFirst (pass_in by) result.0 (Looked result.1) }
+impl<T> Stack<T> {
+    /// Whether the stack held no value at some time since its pass's last step before the call, also
+    /// if it is closed or shut. The call is one load of the top, and needs no `rt`. It was a run of
+    /// the machine's steps.
+    #[inline]
+    pub fn is_empty(&self, by: Pass<T>) -> (Pass<T>, bool)
+        requires { IsPassOf self.now by }
+        ensures of { IsPassOf self.now result.0 }
+        ensures gives { LookGives (shape_of self.now) (pass_in by) (pass_in result.0) result.1 }
+        ensures line { OneLine self.now by.pass result.0.pass LoadTopToLook
+            (ends (Looked result.1)) }
+        ensures answered { Answers (pass_in by) (pass_in result.0) (LookAnswered result.1) }
+        ensures ran { WasRun self.now LookFirst (pass_in by) result.0 (Looked result.1) }
+    {
+        let Pass { pass, kept } = by;
+        let (pass, empty) = look_once(self, pass, &Operation::Look);
+        (Pass { pass, kept }, empty)
+    }
+
+    /// Begins a look, and makes no step yet. If the operation is dropped, its pass goes with it.
+    #[inline]
+    pub fn begin_look(&self, by: Pass<T>) -> LookOp<T>
+        requires { IsPassOf self.now by }
+        ensures makes { IsLooking self.now result }
+        ensures begun { underway_of (machine_of self.now) result.pass ≡ no_step (pass_in by) }
+    {
+        let Pass { pass, .. } = by;
+        Op::begin(self, pass, Operation::Look, LookAt::Load)
+    }
+
+    /// Whether the stack held no value at some time since its pass's last step before the call, also
+    /// if it is closed or shut. As `is_empty`, which needs no `rt`. The call was a run of the
+    /// machine's steps.
+    #[inline]
+    pub fn look<R: Wait>(&self, rt: &R, by: Pass<T>) -> (Pass<T>, bool)
+        requires { IsPassOf self.now by }
+        ensures of { IsPassOf self.now result.0 }
+        ensures gives { LookGives (shape_of self.now) (pass_in by) (pass_in result.0) result.1 }
+        ensures answered { Answers (pass_in by) (pass_in result.0) (LookAnswered result.1) }
+        ensures ran { WasRunBy (machine_of self.now) (look_account self.now.table.shared.key)
+            (is_call LookCall) (pass_in by) result.0 result.1 }
+    {
+        let Pass { pass, .. } = by;
+        let look = Operation::Look;
+        let first = look_fast(self, pass, &look);
+        whole(rt, self, first, look)
+    }
+
+    /// Looks on the fast path alone, as `put_at_once` puts. The answers are those of `look`.
+    #[inline(always)]
+    pub fn look_at_once(&self, by: Pass<T>) -> Stepped<LookOp<T>, Pass<T>, bool>
+        requires { IsPassOf self.now by }
+        ensures { LookTried self.now (pass_in by) result }
+    {
+        let Pass { pass, .. } = by;
+        let look = Operation::Look;
+        let first = look_fast(self, pass, &look);
+        leave(self, first, look)
+    }
+}
+
+// A look's one step, as its operation makes it.
+#[inline(always)]
+fn look_fast<T>(
+    on: &Stack<T>,
+    by: running::Pass<T, Line<T>>,
+    look: &Operation<T>,
+) -> (running::Pass<T, Line<T>>, Next<LookAt, Answered<bool>>)
+    requires named { look.now ≡ LookFirst }
+    requires pass { IsSeatOf on.now by }
+    ensures { LookRan on.now look.now by result.0 result.1 }
 {
-    let Pass { pass, kept } = by;
-    let (pass, empty) = look_once(on, pass, &Operation::Look);
-    (Pass { pass, kept }, empty)
+    let (pass, reply) = look_once(on, by, look);
+    (pass, Next::Done(Answered { kept: (), reply }))
 }
 
 /// The one step of a look.
@@ -90,13 +165,15 @@ impl<T> Code<Stack<T>, T, Line<T>, Operation<T>, Stacked, Answered<bool>, 2> for
     }
 }
 
-impl<T> Call<Stack<T>, T, Line<T>, Operation<T>, Stacked, Answered<bool>, 2> for LookAt {
+impl<T> Replies<Stack<T>, T, Line<T>, Operation<T>, Stacked, (), bool, 2> for LookAt {
     ghost use Rattle.std.specs.Prelude.{refl};
-    ghost use Rattle.treiber_stack.specs.KeepsAnswers.{look_promises, look_keeps};
+    ghost use Rattle.treiber_stack.specs.KeepsAnswers.{look_given, look_promises};
 
-    ghost promises = { look_promises };
+    ghost gives = { look_promises };
 
     ghost idle = { λ key o answer. refl };
 
-    ghost keeps = { look_keeps };
+    ghost given = { look_given };
+
+    ghost kept = { λ key o answer. tt };
 }

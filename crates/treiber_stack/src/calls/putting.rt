@@ -1,21 +1,31 @@
-//! Putting one value: by steps. While the put has a node, the value is in the node's slot, and a
+//! Putting one value: by steps, and by a whole call. While the put has a node, the value is in the node's slot, and a
 //! snapshot shows it to proofs.
 ghost use Rattle.std.specs.Prelude.{◌≡◌};
-ghost use Rattle.treiber_stack.specs.Calls.{put_of};
+ghost use Rattle.bounded_model.specs.Laws.{Answers, PutGives, put_answered};
+ghost use Rattle.bounded_model.specs.Stepping.{no_step};
+ghost use Rattle.bounded_model.specs.declared.commands.Command.TheVariants.{Put as PutCall};
+ghost use Rattle.running.specs.Kept.{WasRun};
+ghost use Rattle.running.specs.Ops.{underway_of};
+ghost use Rattle.treiber_stack.specs.Calls.{is_call, put_of};
+ghost use Rattle.treiber_stack.specs.Putting.{IsPutting, put_account};
+ghost use Rattle.treiber_stack.specs.Stack.{IsPassOf, machine_of, pass_in, shape_of};
+ghost use Rattle.treiber_stack.specs.Trying.{PutTried};
 
 use crate::call_parts::giving::{Chain, Give, give_access, give_next};
 use crate::call_parts::refusing::bars_put;
-use crate::life::stack::{Answered, Stack};
+use crate::fast_paths::put_fast::put_fast;
+use crate::life::stack::{Answered, Pass, Stack};
 use crate::rule::Stacked;
 use atomic_table::Seat;
-use bounded_model::{PutRefused, Word};
+use bounded_model::{PutRefused, Stepped, Word};
 use index_list::{move_out, put_in};
 use machine::View;
-use running::{Access, Call, Code, Next, Op, Outcome};
+use running::{Access, Code, Next, Op, Outcome, Replies, leave, told, whole};
 use stack_machine::Line;
 use stack_table::layout::{FREE_LIST, STACK_LIST};
 use stack_table::{Listed, Operation};
 use std::snapshot::Snapshot;
+use std::sync::Wait;
 use tagged_index::{NULL, Tagged};
 
 /// A put that was begun.
@@ -51,6 +61,75 @@ pub(crate) fn put_operation<T>(value: &T) -> Operation<T>
     ensures { result ≡ put_of value.now }
 {
     Operation::Put(Snapshot::of(value), Listed::End)
+}
+
+impl<T> Stack<T> {
+    /// Begins a put of this value, and makes no step yet. If the operation is dropped, its pass goes
+    /// with it, and its node.
+    #[inline]
+    pub fn begin_put(&self, by: Pass<T>, value: T) -> PutOp<T>
+        requires { IsPassOf self.now by }
+        ensures makes { IsPutting self.now value result }
+        ensures begun { underway_of (machine_of self.now) result.pass ≡ no_step (pass_in by) }
+    {
+        let Pass { pass, .. } = by;
+        let put = put_operation(&value);
+        Op::begin(self, pass, put, PutAt::LoadFree(value))
+    }
+
+    /// Puts a value. The call retries while others interfere.
+    /// - `Ok`: the put's number. Puts and takes count together.
+    /// - `Full`: the stack was open, and each node held a value or was in a pass's hand.
+    /// - `Closed`: it was closed.
+    /// - `Spent`: it is worn out for good. The word is `Free` or `Top`.
+    ///
+    /// Each refusal hands the value back. The call was a run of the machine's steps.
+    #[inline(always)]
+    pub fn put<R: Wait>(
+        &self,
+        rt: &R,
+        by: Pass<T>,
+        value: T,
+    ) -> (Pass<T>, Result<u64, PutRefused<T>>)
+        requires { IsPassOf self.now by }
+        ensures of { IsPassOf self.now result.0 }
+        ensures gives { PutGives (shape_of self.now) (pass_in by) value (pass_in result.0)
+            result.1 }
+        ensures answered { Answers (pass_in by) (pass_in result.0) (put_answered result.1) }
+        ensures ran { WasRun (machine_of self.now) (put_account self.now.table.shared.key)
+            (is_call (PutCall value)) (pass_in by) result.0 result.1 }
+    {
+        let Pass { pass, .. } = by;
+        let put = put_operation(&value);
+        // Looked at here, before a call copies it, so that the answer need not go through memory.
+        match put_fast(self, pass, value, &put) {
+            (pass, Next::Done(answer)) => told(pass, answer),
+            under_way => whole(rt, self, under_way, put),
+        }
+    }
+
+    /// Puts a value on the fast path alone, with a wait of at most 640 spin hints if a
+    /// compare-and-swap failed. If this does not end the put, it comes back under way. The answers
+    /// are those of `put`.
+    #[inline(always)]
+    pub fn put_at_once(
+        &self,
+        by: Pass<T>,
+        value: T,
+    ) -> Stepped<PutOp<T>, Pass<T>, Result<u64, PutRefused<T>>>
+        requires { IsPassOf self.now by }
+        ensures { PutTried self.now value (pass_in by) result }
+    {
+        let Pass { pass, .. } = by;
+        let put = put_operation(&value);
+        match put_fast(self, pass, value, &put) {
+            (pass, Next::Done(answer)) => {
+                let (back, reply) = told(pass, answer);
+                Stepped::Done(back, reply)
+            }
+            under_way => leave(self, under_way, put),
+        }
+    }
 }
 
 impl<T> Code<Stack<T>, T, Line<T>, Operation<T>, Stacked, Answered<Answer<T>>, 2> for PutAt<T> {
@@ -164,13 +243,15 @@ impl<T> Code<Stack<T>, T, Line<T>, Operation<T>, Stacked, Answered<Answer<T>>, 2
 // - with a free node: `Closed`, else `Spent` if the tag of the top is at its limit;
 // - without one: `Closed`, else `Spent`, else `Full`;
 // - `Spent` if the tag of the free nodes' top is at its limit.
-impl<T> Call<Stack<T>, T, Line<T>, Operation<T>, Stacked, Answered<Answer<T>>, 2> for PutAt<T> {
+impl<T> Replies<Stack<T>, T, Line<T>, Operation<T>, Stacked, (), Answer<T>, 2> for PutAt<T> {
     ghost use Rattle.std.specs.Prelude.{refl};
-    ghost use Rattle.treiber_stack.specs.KeepsAnswers.{put_promises, put_keeps};
+    ghost use Rattle.treiber_stack.specs.KeepsAnswers.{put_given, put_promises};
 
-    ghost promises = { put_promises };
+    ghost gives = { put_promises };
 
     ghost idle = { λ key o answer. refl };
 
-    ghost keeps = { put_keeps };
+    ghost given = { put_given };
+
+    ghost kept = { λ key o answer. tt };
 }

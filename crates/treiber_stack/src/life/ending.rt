@@ -1,21 +1,23 @@
 //! The end of a stack.
 ghost use Rattle.bounded_model.specs.Laws.{Leaves};
-ghost use Rattle.run_ends.specs.Ends.{IsRun};
+ghost use Rattle.running.specs.Ends.{IsRun};
 ghost use Rattle.treiber_stack.specs.Left.{left_in};
 ghost use Rattle.treiber_stack.specs.Stack.{shape_of, machine_of, root_in, IsRootOf};
 
 use crate::life::rest::Rest;
 use crate::life::stack::{Root, Stack};
 
-/// Returns what is left, from the top down, as `finish` gives it. A value that a pass held when it
-/// stopped in mid-operation is not among it. It is dropped with the rest. The stack has run as its
-/// machine runs.
-pub fn end<T>(on: Stack<T>, parent: Root<T>) -> Rest<T>
-    requires { IsRootOf on parent }
-    ensures leaves { Leaves (shape_of on) (root_in parent) (left_in result) }
-    ensures run { IsRun (machine_of on) (root_in parent) (left_in result) }
-{
-    let Stack { table, .. } = on;
-    let Root { root, .. } = parent;
-    Rest::of(table.close_with(root.seat))
+impl<T> Stack<T> {
+    /// Ends the stack, and gives what is left, from the top down. A value that a pass held when it
+    /// stopped in mid-operation is not among it. It is dropped with the rest. The stack has run as
+    /// its machine runs.
+    pub fn finish(self, parent: Root<T>) -> Rest<T>
+        requires { IsRootOf self parent }
+        ensures leaves { Leaves (shape_of self) (root_in parent) (left_in result) }
+        ensures run { IsRun (machine_of self) (root_in parent) (left_in result) }
+    {
+        let Stack { table, .. } = self;
+        let Root { root, .. } = parent;
+        Rest::of(table.close_with(root.seat))
+    }
 }

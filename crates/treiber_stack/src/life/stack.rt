@@ -1,32 +1,61 @@
 //! The stack, its passes and its root.
-use crate::calls::closing::{CloseOp, ShutOp};
-use crate::calls::looking::LookOp;
-use crate::calls::putting::PutOp;
-use crate::calls::taking::TakeOp;
+ghost use Rattle.std.specs.Prelude.{◌≡◌, ◌<◌};
+ghost use Rattle.tagged_index.specs.Limits.{capacity_of};
+ghost use Rattle.stack_table.specs.Layout.{words_for};
+
 use crate::rule::Stacked;
-use bounded::Bounded;
-use bounded_model::Operation as AnyCall;
+use atomic_table::{Shared, Table};
+use machine::View;
+use running::{HasTable, Keeping, OnTable, Running};
 use stack_machine::Line;
 use stack_table::Operation;
+use std::alloc::Global;
+use tagged_index::Limits;
 
-/// A bounded stack that many threads share.
-pub type Stack<T> = Bounded<T, Line<T>, Operation<T>, Stacked, 2>;
+/// A bounded stack, last in, first out, that many threads share by `&`, each with a pass of its
+/// own. Its table has two lists: the stack and the free nodes.
+#[derive(Drop)]
+pub struct Stack<T> {
+    /// The words and values. Only calls change them.
+    pub table: Table<Option<T>, View<T, Line<T>>, Limits, Running<Operation<T>, Stacked>, Global>,
+    /// What it was made with: the key of its table.
+    pub limits: Limits,
+    pub ghost keyed: { table.shared.key ≡ limits },
+    pub ghost some_word: { 0 < table.shared.table_id.words },
+    pub ghost words: { table.shared.table_id.words ≡ words_for (capacity_of table.shared.key) },
+    pub ghost slots: { table.shared.table_id.slots ≡ capacity_of table.shared.key },
+}
 
-/// Steps on a stack. It has four bytes, by which its calls know whether to wait.
-pub type Pass<T> = bounded::Pass<T, Line<T>, ()>;
+/// A thread's right to call a stack, one call at a time. It has four bytes, by which its calls know
+/// whether to wait.
+pub type Pass<T> = running::PassWith<T, Line<T>, ()>;
 
-/// Gives passes and takes them back.
-pub type Root<T> = bounded::Root<T, Line<T>, ()>;
+/// Comes with a new stack, gives passes and takes them back. `finish` needs it.
+pub type Root<T> = running::RootWith<T, Line<T>, ()>;
 
-/// What a pass had seen as it was made. It has no bytes.
+/// What a pass had seen when the note was made. It has no bytes.
 pub type Note<T> = running::Note<T, Line<T>>;
 
 /// What an operation has answered. A stack's pass keeps nothing between its calls.
-pub type Answered<R> = bounded::Answered<(), R>;
+pub type Answered<R> = running::Answered<(), R>;
 
-/// A call of a stack that was begun. It is a type of its own, since the prover then compares its
-/// name, not the types of its five kinds of calls.
-#[derive(Drop)]
-pub struct AnyOp<T> {
-    pub call: AnyCall<PutOp<T>, TakeOp<T>, CloseOp<T>, ShutOp<T>, LookOp<T>>,
+impl<T> OnTable for Stack<T> {
+    ghost key = { λ c. c.table.shared.key };
+
+    ghost id = { λ c. c.table.shared.table_id };
+}
+
+impl<T> HasTable<T, Line<T>, Operation<T>, Stacked> for Stack<T> {
+    #[inline(always)]
+    fn table(
+        &self,
+    ) -> &Shared<Option<T>, View<T, Line<T>>, Limits, Running<Operation<T>, Stacked>> {
+        &self.table.shared
+    }
+}
+
+impl<T> Keeping<Line<T>, ()> for Stack<T> {
+    ghost use Rattle.treiber_stack.specs.Stack.{keeps};
+
+    ghost keeps = { keeps };
 }

@@ -1,6 +1,6 @@
 use Rattle.std.proofs.Common.{subst}
 use Rattle.bounded_model.specs.declared.answers.Stepped.TheVariants.{Again, Done}
-use Rattle.bounded.specs.Bounded.{pass_in}
+use Rattle.running.specs.Kept.{pass_in}
 use Rattle.treiber_stack.specs.Copying.{CopyTried}
 use Rattle.lockfree_c.specs.Held.{StackCopied}
 use Rattle.lockfree_c.proofs.Rests.{began}

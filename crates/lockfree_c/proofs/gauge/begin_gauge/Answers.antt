@@ -1,7 +1,7 @@
 use Rattle.std.proofs.Common.{◌≡◌, ap, subst}
 use Rattle.bounded_model.specs.Stepping.{Underway, no_step}
 use Rattle.running.specs.Ops.{underway_of}
-use Rattle.bounded.specs.Bounded.{pass_in}
+use Rattle.running.specs.Kept.{pass_in}
 use Rattle.ms_queue.specs.Gauging.{IsGauging}
 use Rattle.ms_queue.specs.Queue.{machine_of}
 use Rattle.lockfree_c.specs.Gauges.{GaugeTried, QueueGauged}

@@ -1,5 +1,7 @@
-use Rattle.std.proofs.Common.{◌≡◌}
-use Rattle.waiting.proofs.Trying.{Tried}
+use Rattle.std.proofs.Common.{◌≡◌, Err}
+use Rattle.bounded_model.specs.declared.answers.PutRefused.TheVariants.{Full}
+use Rattle.bounded_model.specs.Laws.{put_answered}
+use Rattle.waiting.proofs.Trying.{Tried, Refused}
 use Rattle.waiting.proofs.put.put_waiting_with.Given as goal
 
 -- nothing was put yet
@@ -11,4 +13,5 @@ invariant-loop g l = record {
   of : g.C.Shared.is_pass l.fn.c l.pass;
   value : l.value ≡ l.fn.value;
   tried : Tried (g.C.Shared.pass l.fn.by) (g.C.Shared.pass l.pass);
+  refused : Refused (put_answered (Err (Full l.fn.value))) (g.C.Shared.pass l.fn.by) (g.C.Shared.pass l.pass);
 }

@@ -1,11 +1,11 @@
 use Rattle.std.proofs.Common.{of_calls, Ok, Err, subst, sym}
 use Rattle.bounded_model.specs.declared.answers.TakeRefused.{TakeRefused}
 use Rattle.bounded_model.specs.Laws.{TakeGives}
-use Rattle.waiting.proofs.Trying.{Tried-none, Tried-more, take_after}
+use Rattle.waiting.proofs.Trying.{Tried-none, Tried-more, Refused-none, Refused-more, take_after}
 use Rattle.waiting.proofs.take.take_waiting_with.Goals as goal
 
 pub loop-init : goal.loop-init
-loop-init g c = record { can = tt; finite = tt; call = c.requires.call; of = c.requires.pass; tried = Tried-none _ }
+loop-init g c = record { can = tt; finite = tt; call = c.requires.call; of = c.requires.pass; tried = Tried-none _; refused = Refused-none _ }
 
 pub returns-in-Ok-clause-gives : goal.returns-in-Ok-clause-gives
 returns-in-Ok-clause-gives g c =
@@ -27,4 +27,5 @@ loop-preserved g c =
       call = search of_calls;
       of = c.take-back.ensures.of;
       tried = Tried-more c.loop.invariant.tried gives.0;
+      refused = Refused-more c.loop.invariant.refused (rw (c.in-Err.is, c.in_default.ensures) at c.take-back.ensures.answered);
     }

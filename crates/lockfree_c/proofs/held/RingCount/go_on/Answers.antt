@@ -2,19 +2,18 @@ use Rattle.std.proofs.Common.{sym, subst}
 use Rattle.running.specs.Passes.{begun_of}
 use Rattle.ring_queue.specs.Counting.{IsCounting}
 use Rattle.ring_queue.specs.Ring.{machine_of}
-use Rattle.lockfree_c.specs.Rings.{CountTried}
 use Rattle.lockfree_c.proofs.RingStays.{CountRan, count_stays, counts_on}
 use Rattle.lockfree_c.proofs.held.RingCount.go_on.Goals as goal
 
-pub run_for-requires : goal.run_for-requires
-run_for-requires c = subst (λ on. IsCounting on c.args.self.op) (sym c.deref.ensures) c.requires
+pub run_for-made-requires : goal.run_for-made-requires
+run_for-made-requires c = subst (λ on. IsCounting on c.args.self.op) (sym c.deref.ensures) c.requires
 
 pub returns-clause-gives : goal.returns-clause-gives
 returns-clause-gives c =
     let k = c.args.self in
-    let made = c.run_for.result in
-    let ran = subst (λ on. CountRan on c.steps_for.result k.op made) c.deref.ensures c.run_for.ensures in
-    (c.joined-made.result, subst (CountTried k.container.value (begun_of (machine_of k.container.value) k.op.pass)) (sym c.joined-made.ensures) (counts_on k.container.value c.steps_for.result k.op made ran), c.count_left.ensures)
+    let made = c.run_for-made.result in
+    let ran = subst (λ on. CountRan on c.steps_for.result k.op made) c.deref.ensures c.run_for-made.ensures in
+    (made, counts_on k.container.value c.steps_for.result k.op c.requires made ran, c.count_left.ensures)
 
 pub returns-clause-of : goal.returns-clause-of
 returns-clause-of c =

@@ -2,7 +2,7 @@ use Rattle.std.proofs.Common.{◌≡◌, ℕ, List, Option, subst, sym}
 use Rattle.std.specs.Prelude.{IsSome}
 use Rattle.std.specs.List.{AllByRecursion as Every}
 use Rattle.bounded_model.specs.declared.answers.Stepped.TheVariants.{Again, Done}
-use Rattle.bounded.specs.Bounded.{pass_in}
+use Rattle.running.specs.Kept.{pass_in}
 use Rattle.treiber_stack.specs.RangeTrying.{RangeBegun, RangeTried}
 use Rattle.lockfree_c.specs.Kinds.{Stack}
 use Rattle.lockfree_c.specs.Held.{RangeMade}

@@ -1,6 +1,6 @@
-use Rattle.std.proofs.Common.{refl, sym, subst}
-use Rattle.running.specs.Going.{Ended}
-use Rattle.running.specs.Passes.{begun_of, pass_in}
+use Rattle.std.proofs.Common.{refl}
+use Rattle.running.specs.Passes.{begun_of}
+use Rattle.running.proofs.Back.{returned}
 use Rattle.running.proofs.Leading.{ended}
 use Rattle.running.proofs.op.Op.run_for.Goals as goal
 
@@ -16,10 +16,5 @@ returns-in-Done g c =
     let answer = c.in-Done.answer in
     let e = c.in-Done.ensures in
     let ran = e.ran op.pass (c.requires.stands, c.requires.named, refl) in
-    let stops = ended m s id op.operation begun back answer (g.met.S.Call.idle key op.operation answer) ran in
-    let end : Ended m (s.operation op.at) back.seat.me.0 begun (s.answer (s.operation op.at) answer) = subst (λ o. Ended m o back.seat.me.0 begun (s.answer o answer)) c.requires.named stops.1 in (
-      stops.0,
-      subst (λ o. g.S.Call.promises key o begun (pass_in back) answer) (sym c.requires.named) (g.met.S.Call.keeps key op.at back.seat.me.0 begun answer end),
-      e.took,
-      stops.1,
-    )
+    let stops = ended m s id op.operation begun back answer (g.met.S.Replies.idle key op.operation answer) ran in
+    (returned m s g.C.Keeping.keeps id (g.S.Replies.gives key) (g.met.S.Replies.idle key) (g.met.S.Replies.given key) (g.met.S.Replies.kept key) op.operation begun back answer stops.0 stops.1, e.took)

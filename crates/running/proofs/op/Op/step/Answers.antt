@@ -1,6 +1,7 @@
 use Rattle.std.proofs.Common.{sym, subst}
 use Rattle.running.specs.Going.{Ended, IsLine}
-use Rattle.running.specs.Passes.{begun_of, pass_in}
+use Rattle.running.specs.Passes.{begun_of}
+use Rattle.running.proofs.Back.{returned}
 use Rattle.running.proofs.Leading.{ended}
 use Rattle.running.proofs.op.Op.step.Goals as goal
 
@@ -15,10 +16,9 @@ returns-in-Done g c =
     let back = c.in-Done.pass in
     let answer = c.in-Done.answer in
     let e = c.in-Done.ensures in
-    let stops = ended m s id (s.operation op.at) begun back answer (g.met.S.Call.idle key (s.operation op.at) answer) e.0 in (
-      stops.0,
+    let stops = ended m s id (s.operation op.at) begun back answer (g.met.S.Replies.idle key (s.operation op.at) answer) e.0 in
+    let end : Ended m op.operation back.seat.me.0 begun (s.answer op.operation answer) = subst (λ o. Ended m o back.seat.me.0 begun (s.answer o answer)) (sym c.requires.named) stops.1 in (
+      returned m s g.C.Keeping.keeps id (g.S.Replies.gives key) (g.met.S.Replies.idle key) (g.met.S.Replies.given key) (g.met.S.Replies.kept key) op.operation begun back answer stops.0 end,
       e.1.1,
-      subst (λ o. g.S.Call.promises key o begun (pass_in back) answer) (sym c.requires.named) (g.met.S.Call.keeps key op.at back.seat.me.0 begun answer stops.1),
       subst (λ o. IsLine m op.pass.seat.me.0 back.seat.me.0 (s.line op.at) (s.answer o answer)) (sym c.requires.named) e.1.0,
-      subst (λ o. Ended m o back.seat.me.0 begun (s.answer o answer)) (sym c.requires.named) stops.1,
     )

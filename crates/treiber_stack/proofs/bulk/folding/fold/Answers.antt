@@ -6,8 +6,7 @@ use Rattle.running.proofs.Ways.{started, begun_is}
 use Rattle.stack_table.specs.declared.operation.Operation.TheVariants.{Fold as FoldFirst}
 use Rattle.std.specs.Prelude.{Ok, Err}
 use Rattle.stack_machine.specs.declared.lines.Answer.TheVariants.{Fold as AnswerFold}
-use Rattle.treiber_stack.specs.Folding.{folded_of}
-use Rattle.treiber_stack.specs.Ran.{FoldAnswers, WasRun}
+use Rattle.treiber_stack.specs.Ran.{FoldAnswers, WasRun, WasFolded}
 use Rattle.treiber_stack.specs.Stack.{as_pass, machine_of, shape_of, pass_in}
 use Rattle.treiber_stack.proofs.Folds.{Folds_more, folds_same, hands_on, all_gone, all_answered, none_answered, all_ran, none_ran, none_taken, gone_few}
 use Rattle.treiber_stack.proofs.bulk.folding.fold.Goals as goal
@@ -70,7 +69,7 @@ returns-in-Ended-clause-ran g c =
     let back = c.to_the_end-back.result.0 in
     let b = c.in-Ended.batch in
     let ran = all_ran stack c.args.front i.0 (record { pass = l.pass; operation = FoldFirst c.args.front; at = l.at }) i.1 back c.to_the_end-back.result.1 (e.stops l.pass c.any-first.ensures.ran) (e.told l.at c.any-first.ensures.told) b c.in-Ended.count c.in-Ended.is in
-    (folded_of b, subst (λ (v : PassView _). WasRun stack (FoldFirst c.args.front) v (as_pass back) (AnswerFold (Ok (folded_of b, b.number)))) i.3 ran)
+    subst (λ (v : PassView _). WasFolded stack (FoldFirst c.args.front) v (as_pass back) c.args.front (Ok (record { number = b.number; count = c.in-Ended.count }))) i.3 ran
 
 pub returns-in-Refused-clause-of : goal.returns-in-Refused-clause-of
 returns-in-Refused-clause-of g c =

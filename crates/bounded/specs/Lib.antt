@@ -1,4 +1,0 @@
-pub mod Bounded
-pub mod KeepsPasses
-pub mod Naming
-pub mod Joined

@@ -1,0 +1,130 @@
+//! The passes of a ring: they are split off its root, meet, tell each other, and are joined again.
+ghost use Rattle.std.specs.Prelude.{◌≡◌, IfSome, IsSome, MatchOption, true};
+ghost use Rattle.bounded_model.specs.Laws.{Heeds, IsFullOfPasses, Joins, MeetGives, Splits};
+ghost use Rattle.running.specs.Passes.{told_in};
+ghost use Rattle.ring_queue.specs.Ring.{IsNoteOf, IsPassOf, keeps, pass_in, shape_of};
+ghost use Rattle.ring_queue.specs.Roots.{IsRootOf, MayGive, MayTake, Stocks, root_in};
+ghost use Rattle.ring_table.specs.Seats.{names};
+ghost use Rattle.ring_table.specs.declared.line.SeatLine.{SeatLine};
+
+use crate::life::ring::{Note, Pass, RingQueue, Root};
+use crate::life::spare::Spare;
+use crate::rule::Ringed;
+use ring_table::{Operation, SeatLine};
+use tagged_index::Limits;
+
+impl<T> RingQueue<T> {
+    /// Gives a new pass, which has seen what the root has. `None` exactly if as many passes are out
+    /// as the ring is for; then nothing has changed.
+    pub fn split(&self, parent: &mut Root<T>) -> Option<Pass<T>>
+        requires { IsRootOf self.now parent.old }
+        ensures root { IsRootOf self.now parent.new }
+        ensures gives { MatchOption result
+            ((root_in parent.new ≡ root_in parent.old)
+            × IsFullOfPasses (shape_of self.now) (root_in parent.old))
+            (λ p. IsPassOf self.now p
+            × Splits (shape_of self.now) (root_in parent.old) (root_in parent.new) (pass_in p)) }
+    {
+        let most = self.limits.passes();
+        if parent.root.out >= most {
+            return None;
+        }
+        let kept = give::<T>(&self.limits, &mut parent.stock);
+        let Some(pass) = running::split::<T, SeatLine<T>, Operation<T>, Ringed>(
+            &self.table.shared,
+            &mut parent.root,
+            most,
+        ) else {
+            unreachable!()
+        };
+        Some(Pass { pass, kept })
+    }
+
+    /// Lets the first pass see what the second has seen. The second comes back as it was. The first
+    /// pass counts one step. The answer is always true, since the table never lacks a seat.
+    pub fn meet(&self, first: &mut Pass<T>, second: Pass<T>) -> (Pass<T>, bool)
+        requires first { IsPassOf self.now first.old }
+        requires second { IsPassOf self.now second }
+        ensures first { IsPassOf self.now first.new }
+        ensures second { IsPassOf self.now result.0 × (pass_in result.0 ≡ pass_in second) }
+        ensures gives { MeetGives (pass_in first.old) (pass_in second) (pass_in first.new)
+            result.1 }
+        ensures met { result.1 ≡ true }
+    {
+        let Pass { pass, kept } = second;
+        let (pass, met) = running::meet::<T, SeatLine<T>, Operation<T>, Ringed>(
+            &self.table.shared,
+            &mut first.pass,
+            pass,
+        );
+        (Pass { pass, kept }, met)
+    }
+
+    /// Makes a note of what the pass has seen. The answer is always some note, since the table
+    /// never lacks a seat.
+    pub fn note(&self, by: &mut Pass<T>) -> Option<Note<T>>
+        requires { IsPassOf self.now by.old }
+        ensures pass { IsPassOf self.now by.new × (pass_in by.new ≡ pass_in by.old) }
+        ensures gives { IfSome result (λ n. IsNoteOf self.now n
+            × (told_in n ≡ (pass_in by.old).seen)) }
+        ensures made { IsSome result }
+    {
+        running::make_note::<T, SeatLine<T>, Operation<T>, Ringed>(&self.table.shared, &mut by.pass)
+    }
+
+    /// The pass has now seen at least what the note tells. So no later call of the pass gives an
+    /// answer that was right only before the note was made. It counts one step.
+    pub fn heed(&self, by: &mut Pass<T>, note: Note<T>)
+        requires pass { IsPassOf self.now by.old }
+        requires note { IsNoteOf self.now note }
+        ensures of { IsPassOf self.now by.new }
+        ensures gives { Heeds (pass_in by.old) (told_in note) (pass_in by.new) }
+    {
+        running::heed::<T, SeatLine<T>, Operation<T>, Ringed>(
+            &self.table.shared,
+            &mut by.pass,
+            note,
+        )
+    }
+
+    /// The root takes a pass back: it has now seen what the pass has. Its place is free for another
+    /// pass.
+    pub fn join(&self, parent: &mut Root<T>, by: Pass<T>)
+        requires root { IsRootOf self.now parent.old }
+        requires pass { IsPassOf self.now by }
+        ensures root { IsRootOf self.now parent.new }
+        ensures gives { Joins (root_in parent.old) (pass_in by) (root_in parent.new) }
+    {
+        let Pass { pass, kept } = by;
+        running::join::<T, SeatLine<T>, Operation<T>, Ringed>(
+            &self.table.shared,
+            &mut parent.root,
+            pass,
+        );
+        take_back::<T>(&self.limits, &mut parent.stock, kept)
+    }
+}
+
+// What a new pass keeps: a spare cell of the root.
+fn give<T>(limits: &Limits, stock: &mut Vec<Spare>) -> Spare
+    requires { MayGive T limits.now stock.old }
+    ensures { (line : SeatLine T) → Stocks limits.now line stock.old
+        → Stocks limits.now (names.shares.gives line).0 stock.new
+        × keeps (names.shares.gives line).1 result }
+{
+    let _ = limits;
+    let Some(spare) = stock.pop() else {
+        unreachable!()
+    };
+    spare
+}
+
+// The root gets back what a pass kept.
+fn take_back<T>(limits: &Limits, stock: &mut Vec<Spare>, kept: Spare)
+    requires { MayTake T limits.now stock.old kept }
+    ensures { (line quiet : SeatLine T) → Stocks limits.now line stock.old → keeps quiet kept
+        → Stocks limits.now (names.shares.takes line quiet) stock.new }
+{
+    let _ = limits;
+    stock.push_reserved(kept);
+}

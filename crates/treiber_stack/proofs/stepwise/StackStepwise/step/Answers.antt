@@ -1,0 +1,11 @@
+use Rattle.bounded_model.specs.Calls.{CallGives}
+use Rattle.running.proofs.Back.{stepped}
+use Rattle.treiber_stack.specs.Calls.{is_call}
+use Rattle.treiber_stack.specs.Every.{every_account}
+use Rattle.treiber_stack.specs.Stack.{keeps, machine_of, shape_of}
+use Rattle.treiber_stack.proofs.stepwise.StackStepwise.step.Goals as goal
+
+pub returns : goal.returns
+returns g c =
+    let q = c.args.self.now in
+    stepped (machine_of q) (every_account q.table.shared.key) keeps q.table.shared.table_id is_call (λ call begun now r. CallGives (shape_of q) begun call now r) c.args.op c.step.result c.step.ensures

@@ -1,0 +1,84 @@
+//! A stack's calls by single steps. One operation makes every call.
+ghost use Rattle.std.specs.Prelude.{◌≡◌};
+ghost use Rattle.bounded_model.specs.Stepping.{no_step};
+ghost use Rattle.treiber_stack.specs.Stack.{IsPassOf, pass_in};
+ghost use Rattle.treiber_stack.specs.Stepwise.{IsMakingCall, making};
+
+use crate::calls::closing::{Mark, MarkAt};
+use crate::calls::every::{AnyOp, StackAt};
+use crate::calls::looking::LookAt;
+use crate::calls::putting::{PutAt, put_operation};
+use crate::calls::taking::TakeAt;
+use crate::life::stack::{Pass, Stack};
+use bounded_model::{Command, Reply, Stepped, Stepwise};
+use running::Op;
+use stack_table::Operation;
+use std::sync::Wait;
+
+impl<T> Stack<T> {
+    /// Begins a put, a take, a close, a shut or a look. It makes no step yet.
+    #[inline(always)]
+    pub fn begin(&self, by: Pass<T>, command: Command<T>) -> AnyOp<T>
+        requires { IsPassOf self.now by }
+        ensures call { IsMakingCall self.now command result }
+        ensures begun { making result ≡ no_step (pass_in by) }
+    {
+        let Pass { pass, .. } = by;
+        match command {
+            Command::Put(value) => {
+                let put = put_operation(&value);
+                Op::begin(self, pass, put, StackAt::Put(PutAt::LoadFree(value)))
+            }
+            Command::Take => { Op::begin(self, pass, Operation::Take, StackAt::Take(TakeAt::Load)) }
+            Command::Close => {
+                let begun = StackAt::Mark(MarkAt::Load(Mark::Closed));
+                Op::begin(self, pass, Operation::Close, begun)
+            }
+            Command::Shut => {
+                Op::begin(
+                    self,
+                    pass,
+                    Operation::Shut,
+                    StackAt::Mark(MarkAt::Load(Mark::Shut)),
+                )
+            }
+            Command::Look => { Op::begin(self, pass, Operation::Look, StackAt::Look(LookAt::Load)) }
+        }
+    }
+}
+
+impl<T: Drop + Send> Stepwise<T> for Stack<T> {
+    ghost use Rattle.std.specs.Prelude.{◌≡◌};
+    ghost use Rattle.bounded_model.specs.Stepping.{no_step};
+    ghost use Rattle.treiber_stack.specs.Stack.{IsPassOf, pass_in};
+    ghost use Rattle.treiber_stack.specs.Stepwise.{IsMakingCall, making};
+
+    type Op = AnyOp<T>;
+
+    ghost is_making = { IsMakingCall };
+
+    ghost making = { making };
+
+    #[inline(always)]
+    fn begin(&self, by: Pass<T>, command: Command<T>) -> AnyOp<T>
+        requires { IsPassOf self.now by }
+        ensures call { IsMakingCall self.now command result }
+        ensures begun { making result ≡ no_step (pass_in by) }
+    {
+        self.begin(by, command)
+    }
+
+    #[inline]
+    fn step(&self, op: AnyOp<T>) -> Stepped<AnyOp<T>, Pass<T>, Reply<T>> {
+        op.step(self)
+    }
+
+    #[inline]
+    fn run_for(&self, op: AnyOp<T>, steps: u64) -> Stepped<AnyOp<T>, Pass<T>, Reply<T>> {
+        op.run_for(self, steps)
+    }
+
+    fn look<R: Wait>(&self, rt: &R, by: Pass<T>) -> (Pass<T>, bool) {
+        self.look(rt, by)
+    }
+}
