@@ -10,7 +10,6 @@ use Rattle.queue_table.specs.Lines.{names}
 use Rattle.running.specs.Acts.{Course}
 use Rattle.running.specs.Going.{Going}
 use Rattle.running.specs.declared.passes.Pass.{Pass}
-use Rattle.bounded.specs.declared.bounded.Laid as laid
 use Rattle.ms_queue.specs.Queue.{Queue, room_of, limit_of, machine_of}
 use Rattle.queue_runs.specs.Bounded.{IsBounded}
 use Rattle.queue_runs.proofs.Queues.{bounded}
@@ -19,7 +18,7 @@ use Rattle.runs.proofs.Made.{some_made}
 use Rattle.progress.proofs.Courses.{Bounds, bounds, bounds_some}
 use Rattle.progress.specs.Queues.{StepsAreBounded, IsOvertaken}
 
-module _ {T P : Type 0} {h : laid.Ghosts P T (Line T) (Operation T)} (c : Queue T P h) (o : Operation T) (p : Pass T (Line T)) {begun : PassView T} {l : Line T} (g : Going (machine_of c) o p.seat.me.0 begun l) where
+module _ {T : Type 0} (c : Queue T) (o : Operation T) (p : Pass T (Line T)) {begun : PassView T} {l : Line T} (g : Going (machine_of c) o p.seat.me.0 begun l) where
   abbrev x : ℕ
   x = (pass_of p.seat.me.0).number
 

@@ -3,7 +3,6 @@ use Rattle.std.proofs.Common.{◌≡◌, ℕ, ◌+◌, ◌*◌, ◌<◌, false, 
 use Rattle.tagged_index.specs.declared.limit.Limits.{Limits}
 use Rattle.bounded_model.specs.declared.views.PassView.{PassView}
 use Rattle.machine.specs.Seats.{Acts, acts_before, acts_now, pass_of}
-use Rattle.bounded.specs.declared.bounded.Laid as laid
 use Rattle.ring_queue.specs.Ring.{RingQueue, room_of, laps_of, passes_of, machine_of}
 use Rattle.ring_runs.specs.Bounded.{IsBounded}
 use Rattle.ring_runs.proofs.Overtaken.{bounded}
@@ -19,7 +18,7 @@ use Rattle.runs.proofs.Made.{some_made}
 use Rattle.progress.proofs.Courses.{Bounds, bounds, bounds_some}
 use Rattle.progress.specs.Rings.{StepsAreBounded, IsOvertaken}
 
-module _ {T P : Type 0} {h : laid.Ghosts P T (SeatLine T) (Operation T)} (c : RingQueue T P h) (o : Operation T) (p : Pass T (SeatLine T)) {begun : PassView T} {l : SeatLine T} (g : Going (machine_of c) o p.seat.me.0 begun l) where
+module _ {T : Type 0} (c : RingQueue T) (o : Operation T) (p : Pass T (SeatLine T)) {begun : PassView T} {l : SeatLine T} (g : Going (machine_of c) o p.seat.me.0 begun l) where
   abbrev x : ℕ
   x = (pass_of p.seat.me.0).number
 

@@ -23,11 +23,10 @@ use Rattle.runs.specs.Heard.{IsLinearizable}
 use Rattle.runs.specs.Made.{HasMade}
 use Rattle.runs.specs.Runs.{Below, schedule_of}
 use Rattle.step_core.specs.queue.Object.{object, answer}
-use Rattle.run_ends.specs.Ends.{IsRun}
-use Rattle.bounded.specs.declared.bounded.Laid as laid
+use Rattle.running.specs.Ends.{IsRun}
 use Rattle.ms_queue.specs.Queue.{Queue, Pass as QueuePass, room_of, limit_of, machine_of}
 
-module _ {T P : Type 0} {g : laid.Ghosts P T (Line T) (Operation T)} (c : Queue T P g) (o : Operation T) (p : Pass T (Line T)) where
+module _ {T : Type 0} (c : Queue T) (o : Operation T) (p : Pass T (Line T)) where
   abbrev pub before : Acts (Line T)
   before = acts_before p.seat.me.0
 
@@ -51,12 +50,12 @@ module _ {T P : Type 0} {g : laid.Ghosts P T (Line T) (Operation T)} (c : Queue 
         → w < others_win (queue (shape (room_of c) (limit_of c))) (pass_in p).number (schedule_of call_at since) (state_after (room_of c) (limit_of c) passes (((pass_in p).number, Begins (first_line o)) ∷ before))
 
 -- an operation that did not end was overtaken
-abbrev pub EndsOrOvertaken : {T P S A : Type 0} {g : laid.Ghosts P T (Line T) (Operation T)} → Queue T P g → Stepped (Op T (Line T) (Operation T) S) (QueuePass T) A → Type 0
+abbrev pub EndsOrOvertaken : {T S A : Type 0} → Queue T → Stepped (Op T (Line T) (Operation T) S) (QueuePass T) A → Type 0
 EndsOrOvertaken c made = MatchStepped made (λ next. IsOvertaken c next.operation next.pass 0) (λ back answer. Unit {0})
 
 -- What is left stands for a run of the passes. Their calls are linearizable. If no pass is out, the passes together have made no more
 -- steps than their calls cost
-pub record IsPaidRun {T P : Type 0} {g : laid.Ghosts P T (Line T) (Operation T)} (c : Queue T P g) (r : RootView T) (left : List T) : Type 0 where
+pub record IsPaidRun {T : Type 0} (c : Queue T) (r : RootView T) (left : List T) : Type 0 where
   pub run : IsRun (machine_of c) r left
   pub linearizable : IsLinearizable names (core T (room_of c) (limit_of c)) call_at answer (object (room_of c) (limit_of c)) run.acts
   pub work : NoneOut r → TotalWork r run.acts

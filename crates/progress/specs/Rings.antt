@@ -6,8 +6,7 @@ use Rattle.bounded_model.specs.Stepping.{MatchStepped}
 use Rattle.bounded_model.specs.declared.views.RootView.{RootView}
 use Rattle.machine.specs.Progress.{others_win}
 use Rattle.machine.specs.Seats.{Acts, acts_before, acts_now}
-use Rattle.bounded.specs.declared.bounded.Laid as laid
-use Rattle.ring_queue.specs.Ring.{RingQueue, Pass as RingPass, Answered, room_of, laps_of, passes_of, machine_of, IsPassOf}
+use Rattle.ring_queue.specs.Ring.{RingQueue, Pass as RingPass, room_of, laps_of, passes_of, machine_of}
 use Rattle.ring_runs.specs.Bounded.{IsBounded, call_at, call_in, state_after}
 use Rattle.ring_runs.specs.Linearizable.{answer_at}
 use Rattle.ring_runs.specs.Machine.{cell_ring}
@@ -16,20 +15,18 @@ use Rattle.ring_table.specs.Core.{core}
 use Rattle.ring_table.specs.Seats.{names}
 use Rattle.ring_table.specs.declared.line.SeatLine.{SeatLine}
 use Rattle.ring_table.specs.declared.operation.Operation.{Operation}
-use Rattle.run_ends.specs.Ends.{IsRun}
+use Rattle.running.specs.Ends.{IsRun}
 use Rattle.running.specs.Acts.{Begins, steps_in}
-use Rattle.running.specs.Code.{Account}
-use Rattle.running.specs.Going.{Ended}
-use Rattle.running.specs.Passes.{begun_of, pass_in}
+use Rattle.running.specs.Passes.{pass_in}
 use Rattle.running.specs.Rule.{line_in}
 use Rattle.running.specs.declared.op.Op.{Op}
 use Rattle.running.specs.declared.passes.Pass.{Pass}
 use Rattle.runs.specs.Heard.{IsLinearizable}
-use Rattle.runs.specs.Made.{HasMade, IsAfter}
+use Rattle.runs.specs.Made.{HasMade}
 use Rattle.runs.specs.Runs.{Below, schedule_of}
 use Rattle.step_core.specs.ring.Object.{object}
 
-module _ {T P : Type 0} {g : laid.Ghosts P T (SeatLine T) (Operation T)} (c : RingQueue T P g) (o : Operation T) (p : Pass T (SeatLine T)) where
+module _ {T : Type 0} (c : RingQueue T) (o : Operation T) (p : Pass T (SeatLine T)) where
   abbrev pub before : Acts (SeatLine T)
   before = acts_before p.seat.me.0
 
@@ -59,19 +56,12 @@ module _ {T P : Type 0} {g : laid.Ghosts P T (SeatLine T) (Operation T)} (c : Ri
         → w < others_win (cell_ring (room_of c) (laps_of c) (passes_of c)) (pass_in p).number (schedule_of call_at since) (state_after (room_of c) (laps_of c) (passes_of c) numbers (((pass_in p).number, Begins (names.first o rest)) ∷ before))
 
 -- an operation that did not end was overtaken
-abbrev pub EndsOrOvertaken : {T P S A : Type 0} {g : laid.Ghosts P T (SeatLine T) (Operation T)} → RingQueue T P g → Stepped (Op T (SeatLine T) (Operation T) S) (RingPass T) A → Type 0
+abbrev pub EndsOrOvertaken : {T S A : Type 0} → RingQueue T → Stepped (Op T (SeatLine T) (Operation T) S) (RingPass T) A → Type 0
 EndsOrOvertaken c made = MatchStepped made (λ next. IsOvertaken c next.operation next.pass 0) (λ back answer. Unit {0})
-
-module _ {T P S A : Type 0} {g : laid.Ghosts P T (SeatLine T) (Operation T)} (c : RingQueue T P g) (account : Account T (SeatLine T) (Operation T) S (Answered A)) where
-  -- The operation is still under way, begun as before, after this many steps in all; or its pass is back and it has ended
-  abbrev pub MadeFor : ℕ → Op T (SeatLine T) (Operation T) S → Stepped (Op T (SeatLine T) (Operation T) S) (RingPass T) A → Type 0
-  MadeFor k op r = MatchStepped r
-      (λ next. IsAfter (machine_of c) account c.table.shared.table_id k next × (begun_of (machine_of c) next.pass ≡ begun_of (machine_of c) op.pass) × (next.operation ≡ op.operation))
-      (λ back a. IsPassOf c back × Ended (machine_of c) op.operation back.pass.seat.me.0 (begun_of (machine_of c) op.pass) (account.answer op.operation (record { kept = back.kept; reply = a })))
 
 -- What is left stands for a run of the passes. Their calls are linearizable. If no pass is out, the passes together have made no more
 -- steps than their calls cost
-pub record IsPaidRun {T P : Type 0} {g : laid.Ghosts P T (SeatLine T) (Operation T)} (c : RingQueue T P g) (r : RootView T) (left : List T) : Type 0 where
+pub record IsPaidRun {T : Type 0} (c : RingQueue T) (r : RootView T) (left : List T) : Type 0 where
   pub run : IsRun (machine_of c) r left
   pub linearizable : IsLinearizable names (core T (room_of c) (laps_of c) (passes_of c)) call_in answer_at (object (room_of c) (laps_of c)) run.acts
   pub work : NoneOut r → TotalWork (passes_of c) r run.acts

@@ -6,7 +6,6 @@ use Rattle.bounded_model.specs.Stepping.{MatchStepped}
 use Rattle.bounded_model.specs.declared.views.RootView.{RootView}
 use Rattle.machine.specs.Progress.{others_win}
 use Rattle.machine.specs.Seats.{Acts, acts_before, acts_now}
-use Rattle.bounded.specs.declared.bounded.Laid as laid
 use Rattle.stack_machine.specs.Answers.{shape}
 use Rattle.stack_machine.specs.Machine.{stack}
 use Rattle.stack_machine.specs.declared.lines.Line.{Line}
@@ -15,7 +14,7 @@ use Rattle.stack_runs.specs.Work.{TotalWork}
 use Rattle.stack_table.specs.Core.{core}
 use Rattle.stack_table.specs.Lines.{first_line, names}
 use Rattle.stack_table.specs.declared.operation.Operation.{Operation}
-use Rattle.run_ends.specs.Ends.{IsRun}
+use Rattle.running.specs.Ends.{IsRun}
 use Rattle.running.specs.Acts.{Begins, steps_in}
 use Rattle.running.specs.Passes.{pass_in}
 use Rattle.running.specs.Rule.{line_in}
@@ -27,7 +26,7 @@ use Rattle.runs.specs.Runs.{Below, schedule_of}
 use Rattle.step_core.specs.stack.Object.{object, answer}
 use Rattle.treiber_stack.specs.Stack.{Stack, Pass as StackPass, room_of, limit_of, machine_of}
 
-module _ {T P : Type 0} {g : laid.Ghosts P T (Line T) (Operation T)} (c : Stack T P g) (o : Operation T) (p : Pass T (Line T)) where
+module _ {T : Type 0} (c : Stack T) (o : Operation T) (p : Pass T (Line T)) where
   abbrev pub before : Acts (Line T)
   before = acts_before p.seat.me.0
 
@@ -52,12 +51,12 @@ module _ {T P : Type 0} {g : laid.Ghosts P T (Line T) (Operation T)} (c : Stack 
         → w < others_win (stack (shape (room_of c) (limit_of c))) (pass_in p).number (schedule_of call_at since) (state_after (room_of c) (limit_of c) passes (((pass_in p).number, Begins (first_line o)) ∷ before))
 
 -- an operation that did not end was overtaken
-abbrev pub EndsOrOvertaken : {T P S A : Type 0} {g : laid.Ghosts P T (Line T) (Operation T)} → Stack T P g → Stepped (Op T (Line T) (Operation T) S) (StackPass T) A → Type 0
+abbrev pub EndsOrOvertaken : {T S A : Type 0} → Stack T → Stepped (Op T (Line T) (Operation T) S) (StackPass T) A → Type 0
 EndsOrOvertaken c made = MatchStepped made (λ next. IsOvertaken c next.operation next.pass 0) (λ back answer. Unit {0})
 
 -- What is left stands for a run of the passes. Their calls are linearizable. If no pass is out, the passes together have made no more
 -- steps than their calls cost
-pub record IsPaidRun {T P : Type 0} {g : laid.Ghosts P T (Line T) (Operation T)} (c : Stack T P g) (r : RootView T) (left : List T) : Type 0 where
+pub record IsPaidRun {T : Type 0} (c : Stack T) (r : RootView T) (left : List T) : Type 0 where
   pub run : IsRun (machine_of c) r left
   pub linearizable : IsLinearizable names (core T (room_of c) (limit_of c)) call_at answer (object (room_of c) (limit_of c)) run.acts
   pub work : NoneOut r → TotalWork (room_of c) r run.acts

@@ -13,9 +13,8 @@ ghost use Rattle.queue_runs.specs.Work.{fee, others_of};
 ghost use Rattle.runs.specs.Work.{total_steps, total_fees};
 ghost use Rattle.progress.specs.Queues.{StepsAreBounded, EndsOrOvertaken, IsPaidRun};
 
-use bounded::joined;
 use bounded_model::{PutRefused, Stepped, TakeRefused};
-use ms_queue::{self, CloseOp, LookOp, Pass, PutOp, Queue, Rest, Root, ShutOp, TakeOp};
+use ms_queue::{CloseOp, LookOp, Pass, PutOp, Queue, Rest, Root, ShutOp, TakeOp};
 use runs::step_for;
 
 /// An operation that is still under way has made at most this many steps, and 8 more for each
@@ -34,7 +33,7 @@ pub fn put_or_overtaken<T: Drop>(
     ensures tried { PutTried queue.now value (pass_in by) result }
     ensures overtaken { EndsOrOvertaken queue.now result }
 {
-    joined(step_for(queue, queue.begin_put(by, value), ALONE + 1))
+    step_for(queue, queue.begin_put(by, value), ALONE + 1)
 }
 
 /// Takes a value in the same way.
@@ -46,14 +45,14 @@ pub fn take_or_overtaken<T: Drop>(
     ensures tried { TakeTried queue.now (pass_in by) result }
     ensures overtaken { EndsOrOvertaken queue.now result }
 {
-    joined(step_for(queue, queue.begin_take(by), ALONE + 1))
+    step_for(queue, queue.begin_take(by), ALONE + 1)
 }
 
 /// Ends a queue, as `finish` does, and returns what is left. That is the outcome of a run of the
 /// passes whose calls are linearizable. If no pass is out, all passes together have made at most as
-/// many steps as their calls cost. The answer of a call says its cost. If P passes were given, the
+/// many steps as their calls cost. The answer of a call says its cost. If the root gave G passes, the
 /// costs are:
-/// - a put `14 * P + 4`, a take `12 * P + 5`, a close `8 * P`, a shut `6 * P - 4`,
+/// - a put `14 * G + 4`, a take `12 * G + 5`, a close `8 * G`, a shut `6 * G - 4`,
 /// - a look 3, a count 4, a gauge 8, a meeting or a note heard 1.
 pub fn end<T>(queue: Queue<T>, parent: Root<T>) -> Rest<T>
     requires { IsRootOf queue parent }
@@ -62,7 +61,7 @@ pub fn end<T>(queue: Queue<T>, parent: Root<T>) -> Rest<T>
     ensures work { NoneOut (root_in parent) → let r = root_in parent in
         total_steps r.works ≤ total_fees (fee (others_of r)) r.works }
 {
-    ms_queue::end(queue, parent)
+    queue.finish(parent)
 }
 
 /// A put under way has made at most `ALONE` steps, and 8 for each compare-and-swap by which another

@@ -19,21 +19,12 @@ ghost use Rattle.ring_queue.specs.Roots.{IsRootOf, root_in};
 ghost use Rattle.ring_queue.specs.Taking.{IsTaking};
 ghost use Rattle.ring_queue.specs.Trying.{PutTried, TakeTried};
 ghost use Rattle.ring_runs.specs.Work.{fee};
-ghost use Rattle.ring_table.specs.Seats.{names};
-ghost use Rattle.ring_table.specs.declared.line.SeatLine.TheVariants.{At};
-ghost use Rattle.ring_table.specs.declared.operation.Operation.{Operation as AnOperation};
-ghost use Rattle.running.specs.Ops.{IsUnderWay};
-ghost use Rattle.runs.specs.Made.{IsAfter};
 ghost use Rattle.runs.specs.Work.{total_steps, total_fees};
-ghost use Rattle.progress.specs.Rings.{EndsOrOvertaken, IsPaidRun, MadeFor, StepsAreBounded};
+ghost use Rattle.progress.specs.Rings.{EndsOrOvertaken, IsPaidRun, StepsAreBounded};
 
 use bounded_model::{PutRefused, Stepped, TakeRefused};
-use ring_queue::{
-    self, Answered, CloseOp, LenOp, LookOp, Pass, PutOp, Rest, RingQueue, Ringed, Root, ShutOp,
-    TakeOp,
-};
-use ring_table::{Operation, SeatLine};
-use running::{Call, Op};
+use ring_queue::{CloseOp, LenOp, LookOp, Pass, PutOp, Rest, RingQueue, Root, ShutOp, TakeOp};
+use runs::step_for;
 
 /// An operation that is still under way has made at most this many steps, and 30 more for each
 /// compare-and-swap by which another pass has succeeded.
@@ -66,37 +57,6 @@ pub fn take_or_overtaken<T: Drop>(
     step_for(ring, ring.begin_take(by), ALONE + 1)
 }
 
-// As `runs::step_for`, for a ring. The pass comes back with the spare cell of its last line.
-fn step_for<T, S, A>(
-    ring: &RingQueue<T>,
-    op: Op<T, SeatLine<T>, Operation<T>, S>,
-    steps: u64,
-) -> Stepped<Op<T, SeatLine<T>, Operation<T>, S>, Pass<T>, A>
-where
-    S: Call<RingQueue<T>, T, SeatLine<T>, Operation<T>, Ringed, Answered<A>, 0>,
-    requires under_way { IsUnderWay (machine_of ring.now) (S.account ring.now.table.shared.key)
-        ring.now.table.shared.table_id op }
-    requires spare { (o : AnOperation T) (a : HasAnswered A)
-        → names.quiet ((S.account ring.now.table.shared.key).answer o a)
-        ≡ At (resting a.kept.index) }
-    ensures { (k : ℕ)
-        → IsAfter (machine_of ring.now) (S.account ring.now.table.shared.key)
-        ring.now.table.shared.table_id k op
-        → MadeFor ring.now (S.account ring.now.table.shared.key) (k + steps) op result }
-{
-    let mut op = op;
-    for _done in 0..steps {
-        match op.step::<RingQueue<T>, Ringed, Answered<A>, 0>(ring) {
-            Stepped::Again(next) => op = next,
-            Stepped::Done(pass, answer) => {
-                let Answered { kept, reply } = answer;
-                return Stepped::Done(Pass { pass, kept }, reply);
-            }
-        }
-    }
-    Stepped::Again(op)
-}
-
 /// Ends a ring, as `finish` does, and returns what is left. That is the outcome of a run of the
 /// passes whose calls are linearizable. If no pass is out, all passes together have made at most as
 /// many steps as their calls cost. The answer of a call says its cost. In a ring for P passes at
@@ -110,7 +70,7 @@ pub fn end<T>(ring: RingQueue<T>, parent: Root<T>) -> Rest<T>
     ensures work { NoneOut (root_in parent) → total_steps (root_in parent).works
         ≤ total_fees (fee (passes_of ring - 1)) (root_in parent).works }
 {
-    ring_queue::end(ring, parent)
+    ring.finish(parent)
 }
 
 /// A put under way has made at most `ALONE` steps, and 30 for each compare-and-swap by which another pass

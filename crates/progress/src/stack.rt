@@ -15,11 +15,10 @@ ghost use Rattle.treiber_stack.specs.Taking.{IsTaking};
 ghost use Rattle.treiber_stack.specs.Trying.{PutTried, TakeTried};
 ghost use Rattle.progress.specs.Stacks.{StepsAreBounded, EndsOrOvertaken, IsPaidRun};
 
-use bounded::joined;
 use bounded_model::{PutRefused, Stepped, TakeRefused};
 use runs::step_for;
 use treiber_stack::{
-    self, CloseOp, FoldOp, LookOp, Pass, PutOp, RangeOp, Rest, Root, ShutOp, Stack, TakeOp,
+    CloseOp, FoldOp, LookOp, Pass, PutOp, RangeOp, Rest, Root, ShutOp, Stack, TakeOp,
 };
 
 /// A put or a take of one value, a close, a shut or a look that is still under way has made at most
@@ -38,7 +37,7 @@ pub fn put_or_overtaken<T: Drop>(
     ensures tried { PutTried stack.now value (pass_in by) result }
     ensures overtaken { EndsOrOvertaken stack.now result }
 {
-    joined(step_for(stack, stack.begin_put(by, value), ALONE + 1))
+    step_for(stack, stack.begin_put(by, value), ALONE + 1)
 }
 
 /// Takes a value in the same way.
@@ -50,7 +49,7 @@ pub fn take_or_overtaken<T: Drop>(
     ensures tried { TakeTried stack.now (pass_in by) result }
     ensures overtaken { EndsOrOvertaken stack.now result }
 {
-    joined(step_for(stack, stack.begin_take(by), ALONE + 1))
+    step_for(stack, stack.begin_take(by), ALONE + 1)
 }
 
 /// Ends a stack, as `finish` does, and returns what is left. That is the outcome of a run of the
@@ -62,7 +61,7 @@ pub fn end<T>(stack: Stack<T>, parent: Root<T>) -> Rest<T>
     ensures leaves { Leaves (shape_of stack) (root_in parent) (left_in result) }
     ensures run { IsPaidRun stack (root_in parent) (left_in result) }
 {
-    treiber_stack::end(stack, parent)
+    stack.finish(parent)
 }
 
 /// A put under way has made at most `ALONE` steps, and 4 for each compare-and-swap by which another

@@ -1,3 +1,4 @@
 pub mod Queues
 pub mod Total
 pub mod Tables
+pub mod WrongActs

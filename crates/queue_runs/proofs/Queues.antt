@@ -1,5 +1,5 @@
 -- The queue's laws, of the acts that led to a table.
-use Rattle.std.proofs.Common.{◌≡◌, ℕ, ◌<◌, false, ◌∷◌, ◌++◌, refl, arith}
+use Rattle.std.proofs.Common.{◌≡◌, ◌⊎◌, ℕ, ◌<◌, false, ◌∷◌, ◌++◌, refl, inl, arith}
 use Rattle.std.specs.List.{AllByRecursion as Every}
 use Rattle.tagged_index.specs.declared.word.TheConstants.{NULL}
 use Rattle.machine.specs.Seats.{Acts}
@@ -16,7 +16,7 @@ use Rattle.step_core.proofs.queue.Run.{run_meets}
 use Rattle.step_core.proofs.queue.Points.{queue_linearizable}
 use Rattle.step_core.specs.queue.Object.{object, answer}
 use Rattle.step_core.proofs.queue.Ends.{queue_overtaken}
-use Rattle.running.specs.Acts.{Begins, Course, IsAllowed}
+use Rattle.running.specs.Acts.{Begins, AllProper, Course, IsAllowed}
 use Rattle.runs.specs.Runs.{schedule_of, IsRunning}
 use Rattle.runs.specs.Heard.{IsLinearizable}
 use Rattle.queue_runs.specs.Bounded.{call_at, state_after, IsBounded}
@@ -43,8 +43,9 @@ module _ {T : Type 0} where
     pub linearizable : (acts : Acts (Line T)) → Every (λ a. IsAllowed names (core T n limit) a.1) acts → IsLinearizable names (core T n limit) call_at answer (object n limit) acts
     linearizable acts allowed = linearizable_acts (on_table T n limit) (queue (shape n limit)) call_at answer (running n limit) (object n limit) (passes_of acts) acts (all_below acts) allowed (queue_linearizable n limit (passes_of acts) (schedule_of call_at acts) some_cell small some_tag)
 
-    pub bounded : (x : ℕ) (before now : Acts (Line T)) (first l : Line T) → Course names (core T n limit) before now x first l → is_idle l ≡ false → IsBounded n limit before now x first
-    bounded x before now first l k busy = record {
+    -- of an operation that goes on, or that has ended in a proper run
+    pub bounded_run : (x : ℕ) (before now : Acts (Line T)) (first l : Line T) → Course names (core T n limit) before now x first l → (is_idle l ≡ false) ⊎ AllProper names (core T n limit) now → IsBounded n limit before now x first
+    bounded_run x before now first l k counts = record {
       since = k.since;
       is = k.is;
       bound = λ passes low.
@@ -52,13 +53,16 @@ module _ {T : Type 0} where
           omega (
             arith,
             queue_overtaken n limit x s (schedule_of call_at k.since) (meets passes ((x, Begins first) ∷ before)),
-            steps_are_own (on_table T n limit) (queue (shape n limit)) call_at (running n limit) x before now first l k passes low busy,
+            steps_are_own (on_table T n limit) (queue (shape n limit)) call_at (running n limit) x before now first l k passes low counts,
           );
       from_any_point = λ later earlier cut passes low.
           let s : State T = state_after n limit passes (earlier ++ (x, Begins first) ∷ before) in
           omega (
             arith,
             queue_overtaken n limit x s (schedule_of call_at later) (meets passes (earlier ++ (x, Begins first) ∷ before)),
-            later_are_own (on_table T n limit) (queue (shape n limit)) call_at (running n limit) x before now first l k passes low later earlier cut busy,
+            later_are_own (on_table T n limit) (queue (shape n limit)) call_at (running n limit) x before now first l k passes low later earlier cut counts,
           );
     }
+
+    pub bounded : (x : ℕ) (before now : Acts (Line T)) (first l : Line T) → Course names (core T n limit) before now x first l → is_idle l ≡ false → IsBounded n limit before now x first
+    bounded x before now first l k busy = bounded_run x before now first l k (inl busy)

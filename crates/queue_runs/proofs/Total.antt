@@ -21,7 +21,7 @@ use Rattle.queue_machine.specs.Deeds.{Makes}
 use Rattle.queue_machine.specs.Machine.{Pass, is_idle, queue}
 use Rattle.queue_table.specs.Lines.{reply, answered}
 use Rattle.queue_table.proofs.Laws.{queue as on_table}
-use Rattle.run_ends.specs.Ends.{IsRun}
+use Rattle.running.specs.Ends.{IsRun}
 use Rattle.runs.specs.Runs.{schedule_of}
 use Rattle.runs.specs.Work.{in_all, is_look, IsPaid}
 use Rattle.runs.proofs.Costs.{at_once, no_looks}

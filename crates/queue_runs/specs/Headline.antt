@@ -12,13 +12,14 @@ use Rattle.queue_table.proofs.Laws.{queue}
 use Rattle.running.specs.Rule.{Rule, line_in}
 use Rattle.step_core.specs.queue.Object.{object, answer}
 use Rattle.runs.specs.Heard.{IsLinearizable}
-use Rattle.runs.specs.Table.{IsQueueHistory, OneHistory, LedTo}
+use Rattle.runs.specs.Table.{HoldAtMost, IsQueueHistory, OneHistory, LedTo}
 use Rattle.queue_runs.specs.Bounded.{call_at}
 
 -- Its history is that of one bounded queue, and all its seats have seen parts of it. No cell and no node is in two places. The acts that led to
 -- it have made that history, and their calls are linearizable
 pub record Headline (T : Type 0) (n limit : ℕ) (s : State (Slot T) (View T (Line T))) (r : Rule (queue T n limit) s) : Type 0 where
   pub history : IsQueueHistory (shape n limit) r.history
+  pub hands : HoldAtMost (shape n limit) 1 r.history
   pub seats : OneHistory r.history s.views
   pub places : NothingTwice n (memory_of s.words s.homes) (map (line_in names) s.views)
   pub led : LedTo names (core T n limit) r.led.acts (memory_of s.words s.homes) r.history s.views

@@ -1,3 +1,4 @@
 pub mod Bounded
 pub mod Work
 pub mod Headline
+pub mod WrongActs

@@ -11,16 +11,20 @@ ghost use Rattle.queue_machine.specs.Machine.{queue as machine};
 ghost use Rattle.queue_machine.specs.Answers.{shape};
 ghost use Rattle.queue_table.proofs.Laws.{queue};
 ghost use Rattle.step_core.specs.queue.Bound.{MeetsRule};
-ghost use Rattle.running.specs.Acts.{Course, IsAllowed, played};
+ghost use Rattle.running.specs.Acts.{AllProper, Course, IsAllowed, played};
 ghost use Rattle.runs.specs.Runs.{Below, Shows};
 ghost use Rattle.queue_runs.specs.Bounded.{IsBounded, call_at, state_after};
 
 /// An operation of a queue that is under way has made at most 20 steps since it was begun, and 8
-/// for each compare-and-swap by which another pass has succeeded since. The same bound holds of the
-/// steps from any point of the operation on.
+/// for each compare-and-swap by which another pass has succeeded since. So has one that has ended, if each
+/// act of its run does something, as in the run of each whole call. The same bound holds of the steps from
+/// any point of the operation on.
 pub fn queue_steps_are_bounded<T>()
-    ensures { (n limit x : ℕ) (before now : Acts (Line T)) (first l : Line T) → 0 < n → n < NULL → 0 < limit
+    ensures under_way { (n limit x : ℕ) (before now : Acts (Line T)) (first l : Line T) → 0 < n → n < NULL → 0 < limit
         → Course names (core T n limit) before now x first l → is_idle l ≡ false
+        → IsBounded n limit before now x first }
+    ensures ended { (n limit x : ℕ) (before now : Acts (Line T)) (first l : Line T) → 0 < n → n < NULL → 0 < limit
+        → Course names (core T n limit) before now x first l → AllProper names (core T n limit) now
         → IsBounded n limit before now x first }
 {}
 

@@ -10,6 +10,6 @@ mod linearizable;
 mod work;
 
 pub use bounds::{queue_acts_are_a_schedule, queue_steps_are_bounded};
-pub use headline::queue_headline;
+pub use headline::{queue_headline, queue_headline_near_misses};
 pub use linearizable::queue_acts_are_linearizable;
 pub use work::queue_total_work;

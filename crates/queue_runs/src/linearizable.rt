@@ -8,8 +8,8 @@ ghost use Rattle.queue_machine.specs.declared.lines.Call.{Call};
 ghost use Rattle.queue_machine.specs.declared.lines.Line.{Line};
 ghost use Rattle.queue_table.specs.Lines.{names};
 ghost use Rattle.queue_table.specs.Core.{core};
-ghost use Rattle.step_core.specs.Linearizable.{Entry, IsLinearization, KeepsRealTimeOrder};
-ghost use Rattle.step_core.specs.queue.Object.{object, answer};
+ghost use Rattle.step_core.specs.Linearizable.{Entry, IsLinearization, IsLinearizationWithAnyHands, KeepsRealTimeOrder};
+ghost use Rattle.step_core.specs.queue.Object.{object, object_with_any_hands, answer};
 ghost use Rattle.running.specs.Acts.{IsAllowed};
 ghost use Rattle.runs.specs.Heard.{IsLinearizable};
 ghost use Rattle.queue_runs.specs.Bounded.{call_at};
@@ -19,11 +19,14 @@ ghost use Rattle.queue_runs.specs.Bounded.{call_at};
 /// responses, in the order of the acts. In the order of the points the operations are a legal history of the
 /// bounded queue, with the answers that were given and the events that the acts have made. The order of the
 /// points keeps real time. If such a history is cut anywhere, the operations of a pass that have taken effect
-/// are those that it has completed by then, with or without its pending one.
+/// are those that it has completed by then, with or without its pending one. This does not need the bounds on
+/// hands, so it is stated without them (`with_any_hands`).
 pub fn queue_acts_are_linearizable<T>()
     ensures points { (n limit : ℕ) (acts : Acts (Line T)) → 0 < n → n < NULL → 0 < limit
         → AllByRecursion (λ a. IsAllowed names (core T n limit) a.1) acts
         → IsLinearizable names (core T n limit) call_at answer (object n limit) acts }
+    ensures with_any_hands { (n limit : ℕ) (course : List (Entry T (Call T) (Answer T))) →
+        IsLinearization (object n limit) course → IsLinearizationWithAnyHands (object_with_any_hands n limit) course }
     ensures keeps_real_time_order { (n limit p : ℕ) (newer older : List (Entry T (Call T) (Answer T))) →
-        IsLinearization (object n limit) (newer ++ older) → KeepsRealTimeOrder p older }
+        IsLinearizationWithAnyHands (object_with_any_hands n limit) (newer ++ older) → KeepsRealTimeOrder p older }
 {}

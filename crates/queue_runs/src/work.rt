@@ -5,13 +5,14 @@ ghost use Rattle.bounded_model.specs.Laws.{IsSound, NoneOut};
 ghost use Rattle.bounded_model.specs.declared.views.RootView.{RootView};
 ghost use Rattle.queue_machine.specs.Answers.{shape};
 ghost use Rattle.queue_table.proofs.Laws.{queue};
-ghost use Rattle.run_ends.specs.Ends.{IsRun};
+ghost use Rattle.running.specs.Ends.{IsRun};
 ghost use Rattle.queue_runs.specs.Work.{TotalWork};
 
-/// The total work on a queue of P passes that have all been joined. Together they have made at most the
-/// sum of the steps that their calls cost. This holds of the calls that the root keeps of each joined
-/// pass, by their answers, and of the calls that the acts of the run begin. The costs:
-/// - a put `14 * P + 4`, a take `12 * P + 5`, a close `8 * P`, a shut `6 * P - 4`;
+/// The total work on a queue whose root gave G passes, if all have been joined. Together they have
+/// made at most the sum of the steps that their calls cost. This holds of the calls that the root
+/// keeps of each joined pass, by their answers, and of the calls that the acts of the run begin. The
+/// costs:
+/// - a put `14 * G + 4`, a take `12 * G + 5`, a close `8 * G`, a shut `6 * G - 4`;
 /// - a look 3, a count 4, a gauge 8, a meeting or a note heard 1.
 pub fn queue_total_work<T>()
     ensures { (n limit : ℕ) (r : RootView T) (left : List T) → 0 < n → n < NULL → 0 < limit

@@ -1,13 +1,23 @@
 -- A linearization whose calls are told with more than the object knows is one of the calls alone.
-use Rattle.std.proofs.Common.{◌≡◌, ℕ, Bool, true, false, cond, eqb, List, [], ◌∷◌, ◌++◌, map, refl, sym, ap, ◌∙◌, subst}
+use Rattle.std.proofs.Common.{◌≡◌, ℕ, ◌≤◌, Bool, true, false, cond, eqb, List, [], ◌∷◌, ◌++◌, map, refl, sym, ap, ◌∙◌, subst}
 use Rattle.bounded_model.specs.declared.history.Event.{Event}
+use Rattle.bounded_model.specs.Histories.{pass_of}
 use Rattle.bounded_model.specs.Machine.{state, Needs}
 use Rattle.machine.specs.Seats.{Acts}
-use mathlib.Core.Option.{Option, some}
+use mathlib.Core.Option.{Option, none, some}
 use Rattle.running.specs.Machine.{Names, Core}
 use Rattle.running.specs.Acts.{Doing, Begins, Steps, Looks, Hears, Now, played}
 use Rattle.runs.specs.Heard.{heard_at, heard, IsLinearizable}
-use Rattle.step_core.specs.Linearizable.{Operation, Object, Entry, Invokes, Responds, Hand, Updates, Reads, Stage, Rests, Pending, TookEffect, without_points, events, stage, IsLinearization}
+use Rattle.step_core.specs.Linearizable.{Operation, Object, Entry, Invokes, Responds, Hand, Updates, Reads, Stage, Rests, Pending, TookEffect, most_of, MayHold, without_points, events, stage, call_of, IsLinearization}
+
+module _ {C D : Type 0} (f : C → D) where
+  abbrev at_call : Option C → Option D
+  at_call none = none
+  at_call (some call) = some (f call)
+
+  which : (b : Bool) (c : Option C) (d d' : Option D) (c' : Option C) → d ≡ at_call c → d' ≡ at_call c' → cond b d d' ≡ at_call (cond b c c')
+  which true c d d' c' e e' = e
+  which false c d d' c' e e' = e'
 
 module _ {C D A : Type 0} (f : C → D) where
   abbrev pub operation : Operation C A → Operation D A
@@ -25,7 +35,7 @@ module _ {C D A : Type 0} (f : C → D) where
 module _ {T C D A : Type 0} (f : C → D) where
   -- the object, of calls that are told with more
   abbrev pub of_more : Object T D A → Object T C A
-  of_more o = record { shape = o.shape; updates = λ k e. o.updates (operation f k) e; reads = λ k h. o.reads (operation f k) h }
+  of_more o = record { shape = o.shape; most = λ c. o.most (f c); updates = λ k e. o.updates (operation f k) e; reads = λ k h. o.reads (operation f k) h }
 
   abbrev entry : Entry T C A → Entry T D A
   entry (Invokes p call) = Invokes p (f call)
@@ -65,13 +75,31 @@ module _ {T C D A : Type 0} (f : C → D) where
   same_stage p (Updates k e ∷ course) = either f (eqb k.by p) (TookEffect (some k.answer)) (TookEffect (some k.answer)) (stage p (entries course)) (stage p course) refl (same_stage p course)
   same_stage p (Reads k ∷ course) = either f (eqb k.by p) (TookEffect (some k.answer)) (TookEffect (some k.answer)) (stage p (entries course)) (stage p course) refl (same_stage p course)
 
+  same_call : (p : ℕ) (course : List (Entry T C A)) → call_of p (entries course) ≡ at_call f (call_of p course)
+  same_call p [] = refl
+  same_call p (Invokes q call ∷ course) = which f (eqb q p) (some call) (some (f call)) (call_of p (entries course)) (call_of p course) refl (same_call p course)
+  same_call p (Responds q answer ∷ course) = which f (eqb q p) none none (call_of p (entries course)) (call_of p course) refl (same_call p course)
+  same_call p (Hand e ∷ course) = same_call p course
+  same_call p (Updates k e ∷ course) = same_call p course
+  same_call p (Reads k ∷ course) = same_call p course
+
+  same_most : (o : Object T D A) (c : Option C) → most_of (of_more o) c ≡ most_of o (at_call f c)
+  same_most o none = refl
+  same_most o (some call) = refl
+
+  still_holds : (o : Object T D A) (e : Event T) (course : List (Entry T C A)) → MayHold (of_more o) e (events course) (call_of (pass_of e) course) → MayHold o e (events (entries course)) (call_of (pass_of e) (entries course))
+  still_holds o e course may =
+      subst (λ (k : ℕ). (state o.shape (e ∷ events (entries course))).hand (pass_of e) ≤ k) (same_most o (call_of (pass_of e) course) ∙ ap (most_of o) (sym (same_call (pass_of e) course)))
+      (subst (λ (h : List (Event T)). (state o.shape (e ∷ h)).hand (pass_of e) ≤ most_of (of_more o) (call_of (pass_of e) course)) (sym (same_events course)) may)
+
   still_right : (o : Object T D A) (course : List (Entry T C A)) → IsLinearization (of_more o) course → IsLinearization o (entries course)
   still_right o [] right = tt
   still_right o (Invokes p call ∷ course) right = (same_stage p course ∙ ap (at_stage f) right.0, still_right o course right.1)
-  still_right o (Responds p answer ∷ course) right = (same_stage p course ∙ ap (at_stage f) right.0, still_right o course right.1)
-  still_right o (Hand e ∷ course) right = (right.0, subst (λ (h : List (Event T)). Needs o.shape (state o.shape h) e) (sym (same_events course)) right.1, still_right o course right.2)
+  still_right o (Responds p answer ∷ course) right = (same_stage p course ∙ ap (at_stage f) right.0, ap (λ (h : List (Event T)). (state o.shape h).hand p) (same_events course) ∙ right.1, still_right o course right.2)
+  still_right o (Hand e ∷ course) right =
+      (right.0, still_holds o e course right.1, subst (λ (h : List (Event T)). Needs o.shape (state o.shape h) e) (sym (same_events course)) right.2, still_right o course right.3)
   still_right o (Updates k e ∷ course) right =
-      (same_stage k.by course ∙ ap (at_stage f) right.0, right.1, subst (λ (h : List (Event T)). Needs o.shape (state o.shape h) e) (sym (same_events course)) right.2, still_right o course right.3)
+      (same_stage k.by course ∙ ap (at_stage f) right.0, right.1, still_holds o e course right.2, subst (λ (h : List (Event T)). Needs o.shape (state o.shape h) e) (sym (same_events course)) right.3, still_right o course right.4)
   still_right o (Reads k ∷ course) right =
       (same_stage k.by course ∙ ap (at_stage f) right.0, subst (λ (h : List (Event T)). o.reads (operation f k) h) (sym (same_events course)) right.1, still_right o course right.2)
 

@@ -1,5 +1,5 @@
 -- An operation of a ring ends, by what others did meanwhile.
-use Rattle.std.proofs.Common.{◌≡◌, ◌<◌, ◌≤◌, ℕ, suc, ◌+◌, ◌*◌, Bool, true, false, cond, List, [], ◌∷◌, ◌++◌, append_assoc, append-nil, map, refl, sym, ap, ◌∙◌, subst, arith}
+use Rattle.std.proofs.Common.{◌≡◌, ◌<◌, ◌≤◌, ℕ, suc, ◌+◌, ◌*◌, Bool, true, false, cond, List, [], ◌∷◌, ◌++◌, append_assoc, append-nil, map, refl, sym, ap, ◌∙◌, subst, arith, ◌⊎◌, inl}
 use Rattle.std.specs.List.{AllByRecursion as Every}
 use Rattle.std.proofs.lemmas.Bool.{false≢true}
 use mathlib.Core.Option.{Option, none, some}
@@ -25,7 +25,7 @@ use Rattle.ring_table.specs.Seats.{names, is_idle, cells_from}
 use Rattle.ring_table.specs.Core.{core}
 use Rattle.ring_table.proofs.Laws.{ring_on}
 use Rattle.ring_table.proofs.Seats.{found}
-use Rattle.running.specs.Acts.{Begins, Course, Now, played, steps_in, IsAllowed}
+use Rattle.running.specs.Acts.{Begins, Course, Now, played, steps_in, IsAllowed, AllProper}
 use Rattle.runs.specs.Runs.{Below, one, schedule_of}
 use Rattle.runs.proofs.Points.{stays}
 use Rattle.runs.proofs.Underway.{later_are_own, at_point, line_begun, none_begun}
@@ -165,7 +165,7 @@ module _ {T : Type 0} (n laps passes : ℕ) where
   lands_going x m (At l) going = subst (λ (u : SeatLine T). IsGoing (Goes u)) (ap (λ (o : Outcome (Memory T) (SeatLine T) (Event T)). o.line) ((running n laps passes).steps m x (At l))) tt
   lands_going x m (Stock cs) going = absurd going
 
-  module _ (some_slot : 0 < n) (x : ℕ) (before now : Acts (SeatLine T)) (first l : SeatLine T) (k : Course names (core T n laps passes) before now x first l) (busy : is_idle l ≡ false) where
+  module _ (some_slot : 0 < n) (x : ℕ) (before now : Acts (SeatLine T)) (first l : SeatLine T) (k : Course names (core T n laps passes) before now x first l) (counts : (is_idle l ≡ false) ⊎ AllProper names (core T n laps passes) now) where
     abbrev older : Acts (SeatLine T)
     older = (x, Begins first) ∷ before
 
@@ -217,16 +217,20 @@ module _ {T : Type 0} (n laps passes : ℕ) where
           let c = compared n laps passes x (schedule_of call_at later) s so_far.left so_far.keeps fresh_later_on in
           omega (
             arith,
-            later_are_own (ring_on T n laps passes) (cell_ring n laps passes) call_at (running n laps passes) x before now first l k numbers low later earlier cut busy,
+            later_are_own (ring_on T n laps passes) (cell_ring n laps passes) call_at (running n laps passes) x before now first l k numbers low later earlier cut counts,
             c.own,
             c.wins,
             pool_overtaken x (lift so_far.left s) (with_pool n laps passes (schedule_of call_at later) s) so_far.keeps going,
           )
 
-    pub bounded : IsBounded n laps passes before now x first
-    bounded = record {
+    -- of an operation that goes on, or that has ended in a proper run
+    pub bounded_run : IsBounded n laps passes before now x first
+    bounded_run = record {
       since = k.since;
       is = k.is;
       bound = λ numbers low. later_bound k.since [] (sym (append-nil k.since)) numbers low;
       from_any_point = later_bound;
     }
+
+  pub bounded : 0 < n → (x : ℕ) (before now : Acts (SeatLine T)) (first l : SeatLine T) → Course names (core T n laps passes) before now x first l → is_idle l ≡ false → IsBounded n laps passes before now x first
+  bounded some_slot x before now first l k busy = bounded_run some_slot x before now first l k (inl busy)

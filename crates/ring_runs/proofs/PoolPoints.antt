@@ -1,16 +1,18 @@
 -- The ring with a pool is linearizable.
-use Rattle.std.proofs.Common.{◌≡◌, ℕ, ◌+◌, ◌<◌, true, false, List, refl, ap, sym, inl}
+use Rattle.std.proofs.Common.{◌≡◌, ℕ, ◌+◌, ◌<◌, true, false, List, refl, ap, sym, subst, inl}
 use Rattle.std.proofs.lemmas.Bool.{false≢true}
 use mathlib.Core.Option.{Option, none, some, some-ne-none}
 use Rattle.bounded_model.specs.declared.history.Event.{Event}
+use Rattle.bounded_model.specs.Histories.{own}
 use Rattle.machine.specs.Schedule.{Schedule}
 use Rattle.ring_machine.specs.declared.lines.Answer.{Answer}
 use Rattle.ring_machine.specs.declared.lines.Call.{Call}
 use Rattle.ring_machine.specs.Machine as ring
 use Rattle.ring_table.specs.declared.line.SeatLine.TheVariants.{At, Stock}
 use Rattle.step_core.specs.Linearizable.{Object, Linearizable}
-use Rattle.step_core.specs.ring.Object.{object}
+use Rattle.step_core.specs.ring.Object.{most, object}
 use Rattle.step_core.proofs.Entries.{visible}
+use Rattle.step_core.proofs.Holding.{hand_after, Within}
 use Rattle.step_core.proofs.Points.{Going, Ended, Speaks, linearizable}
 use Rattle.ring_runs.proofs.RingPoints.{ring_going, ring_ended, one_answer}
 use Rattle.ring_runs.specs.Machine.{From}
@@ -33,14 +35,16 @@ module _ {T : Type 0} where
 
 module _ {T : Type 0} (n laps passes : ℕ) where
   going : (p : ℕ) (c : From T) (l : PoolLine T) (b seen : List (Event T)) → Story n laps (n + passes) p (some c) l b seen → idle_in l ≡ false → Going (object_from n laps) p c b seen
-  going p c (Gets from call) b seen story busy = record { between = story.1.between; is = story.1.is; point = inl (ap visible story.1.none_own) }
-  going p c (Goes (At l)) b seen story busy = let g = ring_going n laps (n + passes) p c.1 l b seen story busy in record { between = g.between; is = g.is; point = g.point }
+  going p c (Gets from call) b seen story busy = record { between = story.1.between; is = story.1.is; point = inl (ap visible story.1.none_own); holds = subst (Within (most (call_of c))) (sym story.1.none_own) tt }
+  going p c (Goes (At l)) b seen story busy = let g = ring_going n laps (n + passes) p c.1 l b seen story busy in record { between = g.between; is = g.is; point = g.point; holds = g.holds }
   going p c (Goes (Stock cs)) b seen story busy = absurd story
 
-  ended : (p : ℕ) (c : From T) (l : PoolLine T) (b seen : List (Event T)) → Story n laps (n + passes) p (some c) l b seen → idle_in l ≡ true → Ended (object_from n laps) p c (answer_in l) b seen
-  ended p c (Gets from call) b seen story idle = absurd (false≢true idle)
-  ended p c (Goes (At l)) b seen story idle = let g = ring_ended n laps (n + passes) p c.1 l b seen story idle in record { a = g.a; heard = g.heard; between = g.between; is = g.is; point = g.point }
-  ended p c (Goes (Stock cs)) b seen story idle = absurd story
+  ended : (p : ℕ) (c : From T) (l : PoolLine T) (b seen : List (Event T)) → hand_after (own p b) ≡ 0 → Story n laps (n + passes) p (some c) l b seen → idle_in l ≡ true → Ended (object_from n laps) p c (answer_in l) b seen
+  ended p c (Gets from call) b seen empty story idle = absurd (false≢true idle)
+  ended p c (Goes (At l)) b seen empty story idle =
+      let g = ring_ended n laps (n + passes) p c.1 l b seen empty story idle in
+      record { a = g.a; heard = g.heard; between = g.between; is = g.is; holds = g.holds; point = g.point }
+  ended p c (Goes (Stock cs)) b seen empty story idle = absurd story
 
   unbegun : (p : ℕ) (l : PoolLine T) (b seen : List (Event T)) → Story n laps (n + passes) p none l b seen → idle_in l ≡ true
   unbegun p (Gets from call) b seen story = absurd (some-ne-none (from, call) (sym story.0))
@@ -53,8 +57,8 @@ module _ {T : Type 0} (n laps passes : ℕ) where
     rest_idle = λ p. refl;
     starts_busy = λ call l. refl;
     unbegun = unbegun;
-    going = going;
-    ended = ended;
+    going = λ p c l b seen legal story busy. going p c l b seen story busy;
+    ended = λ p c l b seen legal empty story idle. ended p c l b seen empty story idle;
     one_answer = λ p c a a' e. one_answer p c.1 a a' e;
   }
 

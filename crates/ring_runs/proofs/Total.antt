@@ -20,7 +20,7 @@ use Rattle.ring_table.specs.Seats.{is_idle, cells_from}
 use Rattle.ring_table.specs.Core.{shape_for}
 use Rattle.ring_table.proofs.Laws.{ring_on}
 use Rattle.ring_table.proofs.Seats.{sum_at}
-use Rattle.run_ends.specs.Ends.{IsRun}
+use Rattle.running.specs.Ends.{IsRun}
 use Rattle.runs.specs.Runs.{Below, schedule_of}
 use Rattle.runs.specs.Work.{in_all, is_look, IsPaid}
 use Rattle.runs.proofs.Costs.{no_looks}

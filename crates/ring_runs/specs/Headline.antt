@@ -12,7 +12,7 @@ use Rattle.ring_table.proofs.Laws.{ring_on}
 use Rattle.running.specs.Rule.{Rule, line_in}
 use Rattle.step_core.specs.ring.Object.{object}
 use Rattle.runs.specs.Heard.{IsLinearizable}
-use Rattle.runs.specs.Table.{IsQueueHistory, OneHistory, LedTo}
+use Rattle.runs.specs.Table.{HoldAtMost, IsQueueHistory, OneHistory, LedTo}
 use Rattle.ring_runs.specs.Bounded.{call_in}
 use Rattle.ring_runs.specs.Linearizable.{answer_at}
 
@@ -20,6 +20,7 @@ use Rattle.ring_runs.specs.Linearizable.{answer_at}
 -- that history, and their calls are linearizable
 pub record Headline (T : Type 0) (n laps passes : ℕ) (s : State (Slot T) (View T (SeatLine T))) (r : Rule (ring_on T n laps passes) s) : Type 0 where
   pub history : IsQueueHistory (shape n laps) r.history
+  pub hands : HoldAtMost (shape n laps) 1 r.history
   pub seats : OneHistory r.history s.views
   pub places : NothingTwice n (n + passes) (memory_of n (n + passes) s.words s.homes) (passes_of (map (line_in names) s.views))
   pub led : LedTo names (core T n laps passes) r.led.acts (memory_of n (n + passes) s.words s.homes) r.history s.views

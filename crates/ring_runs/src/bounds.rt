@@ -6,16 +6,20 @@ ghost use Rattle.ring_table.specs.declared.line.SeatLine.{SeatLine};
 ghost use Rattle.ring_table.specs.Seats.{is_idle, names};
 ghost use Rattle.ring_table.specs.Core.{core};
 ghost use Rattle.ring_table.proofs.Laws.{ring_on};
-ghost use Rattle.running.specs.Acts.{AllFresh, Course, IsAllowed, played};
+ghost use Rattle.running.specs.Acts.{AllProper, AllFresh, Course, IsAllowed, played};
 ghost use Rattle.runs.specs.Runs.{Below, Shows};
 ghost use Rattle.ring_runs.specs.Machine.{cell_ring};
 ghost use Rattle.ring_runs.specs.Bounded.{IsBounded, MeetsRule, call_at, state_after};
 
 /// An operation of a ring that is under way has made at most 47 steps, and 30 for each
-/// compare-and-swap by which another pass has succeeded since it was begun.
+/// compare-and-swap by which another pass has succeeded since it was begun. So has one that has ended, if each act
+/// of its run does something, as in the run of each whole call.
 pub fn ring_steps_are_bounded<T>()
-    ensures { (n laps passes x : ℕ) (before now : Acts (SeatLine T)) (first l : SeatLine T) → 0 < n
+    ensures under_way { (n laps passes x : ℕ) (before now : Acts (SeatLine T)) (first l : SeatLine T) → 0 < n
         → Course names (core T n laps passes) before now x first l → is_idle l ≡ false
+        → IsBounded n laps passes before now x first }
+    ensures ended { (n laps passes x : ℕ) (before now : Acts (SeatLine T)) (first l : SeatLine T) → 0 < n
+        → Course names (core T n laps passes) before now x first l → AllProper names (core T n laps passes) now
         → IsBounded n laps passes before now x first }
 {}
 

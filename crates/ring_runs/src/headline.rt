@@ -12,6 +12,7 @@ ghost use Rattle.ring_runs.specs.Headline.{Headline};
 /// - the history is legal. In it no value is lost, doubled or reordered, and no put follows the close;
 /// - each pass has seen a part of it, with all its own events. No two seats are of one pass, and of two
 ///   passes one has seen all that the other has;
+/// - at no time has a pass more than one cell in hand;
 /// - no cell is in two places;
 /// - the acts that led to the table have made that history. Each pass has made its steps in them, and
 ///   its calls have answered in them what its view says;

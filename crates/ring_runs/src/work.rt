@@ -4,7 +4,7 @@ ghost use Rattle.bounded_model.specs.Laws.{IsSound, NoneOut};
 ghost use Rattle.bounded_model.specs.declared.views.RootView.{RootView};
 ghost use Rattle.ring_table.specs.Core.{shape_for};
 ghost use Rattle.ring_table.proofs.Laws.{ring_on};
-ghost use Rattle.run_ends.specs.Ends.{IsRun};
+ghost use Rattle.running.specs.Ends.{IsRun};
 ghost use Rattle.ring_runs.specs.Work.{TotalWork};
 
 /// The total work on a ring for P passes at once, if all passes have been joined, for any number of

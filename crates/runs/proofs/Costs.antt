@@ -11,7 +11,7 @@ use Rattle.machine.specs.Words.{total}
 use Rattle.machine.specs.Schedule.{Machine as Pure, Pass, State, Outcome, Begin, Step, Schedule, having_begun, having_stepped, begun, stepped, acts_at, next, run, start}
 use Rattle.machine.specs.Progress.{steps_at, costs_at, steps_made, calls_cost, AtOnce}
 use Rattle.machine.proofs.Scheduled.{next_kept, same_passes, set_same}
-use Rattle.machine.proofs.Tests.{same_or_not, cases}
+use Rattle.machine.proofs.Tests.{same_or_not}
 use Rattle.running.specs.Machine.{Names, Machine}
 use Rattle.running.specs.Acts.{Doing, Begins, Steps, Looks, Hears, Now, placed, is_begin, is_step, sum_of, after_act, played, IsAllowed, IsProper, AllProper, AllFresh, answers_at, answers_after, answers_in}
 use Rattle.running.proofs.Acts.{sum_same}

@@ -21,7 +21,7 @@ module _ {M L C E : Type 0} (x : Machine M L C E) (p : ℕ) where
   sum_by f [] = 0
   sum_by f (a ∷ more) = cond (a.0 == p) (f a.1) 0 + sum_by f more
 
-  abbrev busy : State M L C E → Bool
+  abbrev pub busy : State M L C E → Bool
   busy s = is_busy x (get_elem? s.passes p)
 
   pub same_there : (s : State M L C E) (q : ℕ) (a : Act C) → q ≢ p → (o : Option (Pass L C E)) → get_elem? (acts_at x s q a o).passes p ≡ get_elem? s.passes p
@@ -61,6 +61,25 @@ module _ {M L C E : Type 0} (x : Machine M L C E) (p : ℕ) where
           → cond b (cond (a.0 == p) (counted x a.1) 0 + own_steps x p more (next x s a)) 0 ≡ cond (a.0 == p) (counted x a.1) 0 + sum_by (counted x) more
       by_test true b rest = ap (λ (k : ℕ). cond (a.0 == p) (counted x a.1) 0 + k) rest
       by_test false b rest = absurd (false≢true (sym (idle_stays (a ∷ more) s b none_begun) ∙ e))
+
+  -- an act of another pass at the end counts nothing
+  none_more : (b : Bool) → cond b (0 + 0) 0 ≡ 0
+  none_more true = refl
+  none_more false = refl
+
+  pub own_others : (xs : Schedule C) (q : ℕ) (a : Act C) (s : State M L C E) → q ≢ p → own_steps x p (xs ++ (q, a) ∷ []) s ≡ own_steps x p xs s
+  own_others [] q a s ne = rw (ne_eqb q p ne) (none_more (busy s))
+  own_others (b ∷ xs) q a s ne = ap (λ (k : ℕ). cond (busy s) (cond (b.0 == p) (counted x b.1) 0 + k) 0) (own_others xs q a (next x s b) ne)
+
+  -- a step of p at the end, in a call, is of that call
+  pub own_one : (xs : Schedule C) (s : State M L C E) → busy (run x xs s) ≡ true → sum_by begun_by xs ≡ 0 → own_steps x p (xs ++ (p, Step) ∷ []) s ≡ own_steps x p xs s + 1
+  own_one [] s e none_begun = let here : is_busy x (get_elem? s.passes p) ≡ true = e in rw (here, eq-eqb p p refl) refl
+  own_one (a ∷ xs) s e none_begun = by_test (busy s) refl (own_one xs (next x s a) e (omega (arith, none_begun)))
+    where
+      by_test : (b : Bool) → busy s ≡ b → own_steps x p (xs ++ (p, Step) ∷ []) (next x s a) ≡ own_steps x p xs (next x s a) + 1
+          → cond b (cond (a.0 == p) (counted x a.1) 0 + own_steps x p (xs ++ (p, Step) ∷ []) (next x s a)) 0 ≡ cond b (cond (a.0 == p) (counted x a.1) 0 + own_steps x p xs (next x s a)) 0 + 1
+      by_test true b rest = omega (arith, rest)
+      by_test false b rest = absurd (false≢true (sym (idle_stays (a ∷ xs) s b none_begun) ∙ e))
 
   sum_append : (f : Act C → ℕ) (xs ys : Schedule C) → sum_by f (xs ++ ys) ≡ sum_by f xs + sum_by f ys
   sum_append f [] ys = omega arith

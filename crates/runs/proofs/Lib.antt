@@ -8,3 +8,5 @@ pub mod Points
 pub mod Costs
 pub mod Work
 pub mod Table
+pub mod Hands
+pub mod WrongTables

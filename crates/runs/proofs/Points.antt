@@ -1,5 +1,5 @@
 -- What a pass's own steps keep of its line, while it begins nothing.
-use Rattle.std.proofs.Common.{◌≡◌, ◌≢◌, ℕ, ◌+◌, ⊎_elim, Bool, cond, List, [], ◌∷◌, ◌++◌, refl, sym, ap, ◌∙◌, subst, ne_eqb, eq-eqb, arith}
+use Rattle.std.proofs.Common.{◌≡◌, ◌≢◌, ℕ, ⊎_elim, Bool, cond, [], ◌∷◌, ◌++◌, refl, sym, ap, ◌∙◌, subst, ne_eqb, eq-eqb, arith}
 use Rattle.std.specs.Prelude.{◌==◌}
 use Rattle.machine.specs.Seats.{Acts}
 use Rattle.machine.proofs.Tests.{cases, same_or_not}

@@ -1,7 +1,7 @@
 -- What any table of a container says as a whole.
-use Rattle.std.proofs.Common.{◌≡◌, ℕ, ◌⊎◌, List, [], ◌∷◌, ◌++◌, refl, sym, subst, ◌∙◌, inl, inr}
+use Rattle.std.proofs.Common.{◌≡◌, ℕ, ◌≤◌, ◌⊎◌, List, [], ◌∷◌, ◌++◌, refl, sym, subst, ◌∙◌, inl, inr}
 use Rattle.std.specs.Prelude.{Option as Slot}
-use lib.ListN.{get_elem?}
+use mathlib.Core.Option.{Option}
 use Rattle.atomic_table.specs.Table.{State}
 use Rattle.bounded_model.specs.declared.history.Event.{Event}
 use Rattle.bounded_model.specs.declared.history.Order.TheVariants.{Fifo, Lifo}
@@ -15,7 +15,10 @@ use Rattle.bounded_model.proofs.Staying.{closed_ends_puts, shut_ends_takes}
 use Rattle.machine.specs.declared.seats.View.{View}
 use Rattle.running.specs.Machine.{Names, Machine}
 use Rattle.running.specs.Rule.{Rule}
-use Rattle.runs.specs.Table.{IsHistory, IsQueueHistory, IsStackHistory, OneHistory, LedTo}
+use Rattle.step_core.specs.Linearizable.{Object}
+use Rattle.step_core.proofs.Full.{hands_in}
+use Rattle.runs.specs.Heard.{IsLinearizable}
+use Rattle.runs.specs.Table.{HoldAtMost, IsHistory, IsQueueHistory, IsStackHistory, OneHistory, LedTo}
 
 module _ {T : Type 0} where
   cut : (xs ys a b : List (Event T)) → xs ++ a ≡ ys ++ b → Later a b ⊎ Later b a
@@ -60,6 +63,10 @@ module _ {T L O : Type 0} {names : Names L O} (m : Machine T L O names) (s : Sta
     in_one_order = λ j k p q b c l n at at'. in_order (r.seated.each j _ at).knows.seen (r.seated.each k _ at').knows.seen;
     seats = λ j v at. (r.seated.each j v at).knows;
   }
+
+  -- no call of the acts has more cells in hand than it may
+  pub hold_at_most : {C A : Type 0} (call_at : L → C) (answer : L → Option A) (o : Object T C A) (few : ℕ) → ((call : C) → o.most call ≤ few) → IsLinearizable names m.core call_at answer o r.led.acts → HoldAtMost o.shape few r.history
+  hold_at_most call_at answer o few each l more older is = hands_in o few each l.course l.right more older (l.same_history ∙ r.led.history_is ∙ is)
 
   pub led_to : LedTo names m.core r.led.acts (m.core.read s.words s.homes) r.history s.views
   led_to = record {

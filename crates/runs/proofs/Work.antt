@@ -17,7 +17,7 @@ use Rattle.machine.specs.Progress.{steps_made, calls_cost}
 use Rattle.machine.proofs.Sums.{total_map}
 use Rattle.running.specs.Machine.{Names, Machine}
 use Rattle.running.specs.Acts.{Doing, Begins, Steps, Looks, Hears, counted, is_step, sum_of, made, played, HasDone, IsAllowed, AllFresh}
-use Rattle.run_ends.specs.Ends.{IsRun}
+use Rattle.running.specs.Ends.{IsRun}
 use Rattle.runs.specs.Runs.{Below, schedule_of, IsRunning}
 use Rattle.runs.specs.Work.{total_steps, total_fees, in_all, is_look, is_hear, pays, IsPaid}
 use Rattle.runs.proofs.Sums.{total_plus, total_most, total_below, total_length, total_alike, by_pass, only_below}

@@ -3,3 +3,4 @@ pub mod Heard
 pub mod Made
 pub mod Work
 pub mod Table
+pub mod WrongTables

@@ -9,11 +9,13 @@ use Rattle.machine.specs.Seats.{Acts, acts_before, acts_now, pass_of}
 use Rattle.running.specs.Machine.{Names, Machine}
 use Rattle.running.specs.Acts.{Begins, begins_in, steps_in}
 use Rattle.running.specs.Code.{Account}
+use Rattle.running.specs.Kept.{Returned}
 use Rattle.running.specs.Ops.{IsUnderWay}
-use Rattle.running.specs.Passes.{IsPassOn, begun_of, pass_in}
+use Rattle.running.specs.Passes.{begun_of}
 use Rattle.running.specs.Rule.{line_in}
+use Rattle.running.specs.declared.kept.Answered.{Answered}
+use Rattle.running.specs.declared.kept.PassWith.{PassWith}
 use Rattle.running.specs.declared.op.Op.{Op}
-use Rattle.running.specs.declared.passes.Pass.{Pass}
 
 -- After the acts `before` pass x began an operation at this first line. By now it began no other, and has made n steps
 pub record MadeSince {L : Type 0} (before now : Acts L) (x : ℕ) (first : L) (n : ℕ) : Type 0 where
@@ -33,9 +35,9 @@ module _ {T L O S A : Type 0} {names : Names L O} (m : Machine T L O names) (c :
     pub under_way : IsUnderWay m c id op
     pub made : HasMade names op.operation op.pass.seat.me.0 k
 
-  module _ (Promises : O → PassView T → PassView T → A → Type 0) where
-    -- The operation continues, begun as before, after this many steps in all, or it has given what it promises
-    abbrev pub MadeFor : ℕ → Op T L O S → Stepped (Op T L O S) (Pass T L) A → Type 0
-    MadeFor k op r = MatchStepped r
-        (λ next. IsAfter k next × (begun_of m next.pass ≡ begun_of m op.pass) × (next.operation ≡ op.operation))
-        (λ back a. IsPassOn m id back × Promises op.operation (begun_of m op.pass) (pass_in back) a)
+module _ {T L O K R S : Type 0} {names : Names L O} (m : Machine T L O names) (c : Account T L O S (Answered K R)) (Keeps : L → K → Type 0) (id : TableId) (Gives : O → PassView T → PassView T → R → Type 0) where
+  -- The operation continues, begun as before, after this many steps in all, or its pass is back, with a reply that tells what it promises
+  abbrev pub MadeFor : ℕ → Op T L O S → Stepped (Op T L O S) (PassWith T L K) R → Type 0
+  MadeFor k op r = MatchStepped r
+      (λ next. IsAfter m c id k next × (begun_of m next.pass ≡ begun_of m op.pass) × (next.operation ≡ op.operation))
+      (λ back reply. Returned m c Keeps id Gives op.operation (begun_of m op.pass) back reply)

@@ -16,6 +16,10 @@ use Rattle.machine.specs.Seats.{Acts, Saw, Knows}
 use Rattle.running.specs.Machine.{Names, Core}
 use Rattle.running.specs.Acts.{AllProper, HasDone, played}
 
+-- at no time of a history has a pass more than this number of cells in hand
+abbrev pub HoldAtMost : {T : Type 0} → Shape → ℕ → List (Event T) → Type 0
+HoldAtMost {T} c few h = (more older : List (Event T)) → h ≡ more ++ older → (p : ℕ) → (state c older).hand p ≤ few
+
 module _ {T : Type 0} (c : Shape) (h : List (Event T)) where
   -- What holds of a legal history of either order. Up to the order, the values that were put are those taken and those that the container
   -- holds. No put follows the close, and no take or fold the shut. The values and the cells in hand are no more than the capacity

@@ -3,5 +3,9 @@
 #![tactic(auto)]
 
 mod counting;
+mod full;
+mod shown;
 
 pub use counting::step_for;
+pub use full::full_means_full;
+pub use shown::seats_near_misses;

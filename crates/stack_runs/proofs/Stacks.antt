@@ -1,5 +1,5 @@
 -- The stack's laws, of the acts that led to a table.
-use Rattle.std.proofs.Common.{◌≡◌, ℕ, ◌<◌, ◌≤◌, false, ◌∷◌, ◌++◌, refl, sym, subst, arith}
+use Rattle.std.proofs.Common.{◌≡◌, ℕ, ◌<◌, ◌≤◌, false, ◌∷◌, ◌++◌, refl, sym, subst, arith, ◌⊎◌, inl}
 use Rattle.std.specs.List.{AllByRecursion as Every}
 use mathlib.Core.Option.{Option, none, some}
 use lib.ListN.{get_elem?}
@@ -20,7 +20,7 @@ use Rattle.step_core.proofs.stack.Run.{run_stays}
 use Rattle.step_core.proofs.stack.Points.{stack_linearizable}
 use Rattle.step_core.specs.stack.Object.{object, answer}
 use Rattle.step_core.proofs.stack.Ends.{stack_overtaken, single_overtaken, step_single}
-use Rattle.running.specs.Acts.{Begins, Course, IsAllowed, played}
+use Rattle.running.specs.Acts.{Begins, Course, IsAllowed, played, AllProper}
 use Rattle.runs.specs.Runs.{schedule_of, IsRunning}
 use Rattle.runs.specs.Heard.{IsLinearizable}
 use Rattle.runs.proofs.Underway.{steps_are_own, begins_at, later_are_own, none_begun, line_begun, at_point}
@@ -52,29 +52,30 @@ module _ {T : Type 0} where
     at_single first single none at = tt
     at_single first single (some v) at = subst IsSingle (sym (at v refl)) single
 
-    module _ (x : ℕ) (before now : Acts (Line T)) (first l : Line T) (k : Course names (core T n limit) before now x first l) (busy : is_idle l ≡ false) where
+    module _ (x : ℕ) (before now : Acts (Line T)) (first l : Line T) (k : Course names (core T n limit) before now x first l) (counts : (is_idle l ≡ false) ⊎ AllProper names (core T n limit) now) where
       abbrev older : Acts (Line T)
       older = (x, Begins first) ∷ before
 
-      pub bounded : IsBounded n limit before now x first
-      bounded = record {
+      -- of an operation that goes on, or that has ended in a proper run
+      pub bounded_run : IsBounded n limit before now x first
+      bounded_run = record {
         since = k.since;
         is = k.is;
         bound = λ passes low. omega (
           arith,
           stack_overtaken n limit some_node x (state_after n limit passes older) (schedule_of call_at k.since) (meets passes older),
-          steps_are_own (on_table T n limit) (stack (shape n limit)) call_at (running n limit) x before now first l k passes low busy,
+          steps_are_own (on_table T n limit) (stack (shape n limit)) call_at (running n limit) x before now first l k passes low counts,
         );
         single = λ one passes low. omega (
           arith,
           single_overtaken n limit some_node x (state_after n limit passes older) (schedule_of call_at k.since) (meets passes older)
               (at_single first one (get_elem? (state_after n limit passes older).passes x) (begins_at (on_table T n limit) (stack (shape n limit)) call_at (running n limit) x before now first l k passes low)),
-          steps_are_own (on_table T n limit) (stack (shape n limit)) call_at (running n limit) x before now first l k passes low busy,
+          steps_are_own (on_table T n limit) (stack (shape n limit)) call_at (running n limit) x before now first l k passes low counts,
         );
         from_any_point = λ later earlier cut passes low. omega (
           arith,
           stack_overtaken n limit some_node x (state_after n limit passes (earlier ++ older)) (schedule_of call_at later) (meets passes (earlier ++ older)),
-          later_are_own (on_table T n limit) (stack (shape n limit)) call_at (running n limit) x before now first l k passes low later earlier cut busy,
+          later_are_own (on_table T n limit) (stack (shape n limit)) call_at (running n limit) x before now first l k passes low later earlier cut counts,
         );
         single_from_any_point = λ one later earlier cut passes low.
             let on = on_table T n limit in
@@ -87,6 +88,9 @@ module _ {T : Type 0} where
               arith,
               single_overtaken n limit some_node x (state_after n limit passes (earlier ++ older)) (schedule_of call_at later) (meets passes (earlier ++ older))
                   (at_single ((played names (core T n limit) (earlier ++ older)).line x) single (get_elem? (state_after n limit passes (earlier ++ older)).passes x) there),
-              later_are_own on machine call_at (running n limit) x before now first l k passes low later earlier cut busy,
+              later_are_own on machine call_at (running n limit) x before now first l k passes low later earlier cut counts,
             );
       }
+
+    pub bounded : (x : ℕ) (before now : Acts (Line T)) (first l : Line T) → Course names (core T n limit) before now x first l → is_idle l ≡ false → IsBounded n limit before now x first
+    bounded x before now first l k busy = bounded_run x before now first l k (inl busy)

@@ -29,7 +29,7 @@ use Rattle.stack_machine.specs.Deeds.{Makes}
 use Rattle.stack_machine.specs.Machine.{Pass, is_idle, stack}
 use Rattle.stack_table.specs.Lines.{reply, answered}
 use Rattle.stack_table.proofs.Laws.{stack as on_table}
-use Rattle.run_ends.specs.Ends.{IsRun}
+use Rattle.running.specs.Ends.{IsRun}
 use Rattle.runs.specs.Runs.{schedule_of}
 use Rattle.runs.specs.Work.{in_all, IsPaid}
 use Rattle.runs.proofs.Costs.{at_once, priced, all_costs}

@@ -11,17 +11,21 @@ ghost use Rattle.stack_table.specs.Lines.{names};
 ghost use Rattle.stack_table.specs.Core.{core};
 ghost use Rattle.stack_table.proofs.Laws.{stack};
 ghost use Rattle.step_core.specs.stack.Law.{MeetsRule};
-ghost use Rattle.running.specs.Acts.{Course, IsAllowed, played};
+ghost use Rattle.running.specs.Acts.{AllProper, Course, IsAllowed, played};
 ghost use Rattle.runs.specs.Runs.{Below, Shows};
 ghost use Rattle.stack_runs.specs.Bounded.{IsBounded, call_at, state_after};
 
 /// An operation of a stack of `n` nodes that is under way has made at most `4 * n + 6` steps since it was
 /// begun, and 4 for each compare-and-swap by which another pass has succeeded since. For an operation of one
-/// value, a close, a shut, a look or a gauge, the first number is 9. The same bounds hold of the steps from
-/// any point of the operation on.
+/// value, a close, a shut, a look or a gauge, the first number is 9. The same holds of an operation that has
+/// ended, if each act of its run does something, as in the run of each whole call, and of the steps from any
+/// point of an operation on.
 pub fn stack_steps_are_bounded<T>()
-    ensures { (n limit x : ℕ) (before now : Acts (Line T)) (first l : Line T) → 0 < n → n ≤ NULL
+    ensures under_way { (n limit x : ℕ) (before now : Acts (Line T)) (first l : Line T) → 0 < n → n ≤ NULL
         → Course names (core T n limit) before now x first l → is_idle l ≡ false
+        → IsBounded n limit before now x first }
+    ensures ended { (n limit x : ℕ) (before now : Acts (Line T)) (first l : Line T) → 0 < n → n ≤ NULL
+        → Course names (core T n limit) before now x first l → AllProper names (core T n limit) now
         → IsBounded n limit before now x first }
 {}
 

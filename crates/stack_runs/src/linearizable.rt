@@ -8,8 +8,8 @@ ghost use Rattle.stack_machine.specs.declared.lines.Call.{Call};
 ghost use Rattle.stack_machine.specs.declared.lines.Line.{Line};
 ghost use Rattle.stack_table.specs.Lines.{names};
 ghost use Rattle.stack_table.specs.Core.{core};
-ghost use Rattle.step_core.specs.Linearizable.{Entry, IsLinearization, KeepsRealTimeOrder};
-ghost use Rattle.step_core.specs.stack.Object.{object, answer};
+ghost use Rattle.step_core.specs.Linearizable.{Entry, IsLinearization, IsLinearizationWithAnyHands, KeepsRealTimeOrder};
+ghost use Rattle.step_core.specs.stack.Object.{object, object_with_any_hands, answer};
 ghost use Rattle.running.specs.Acts.{IsAllowed};
 ghost use Rattle.runs.specs.Heard.{IsLinearizable};
 ghost use Rattle.stack_runs.specs.Bounded.{call_at};
@@ -21,6 +21,8 @@ pub fn stack_acts_are_linearizable<T>()
     ensures points { (n limit : ℕ) (acts : Acts (Line T)) → 0 < n → n ≤ NULL
         → AllByRecursion (λ a. IsAllowed names (core T n limit) a.1) acts
         → IsLinearizable names (core T n limit) call_at answer (object n limit) acts }
+    ensures with_any_hands { (n limit : ℕ) (course : List (Entry T (Call T) (Answer T))) →
+        IsLinearization (object n limit) course → IsLinearizationWithAnyHands (object_with_any_hands n limit) course }
     ensures keeps_real_time_order { (n limit p : ℕ) (newer older : List (Entry T (Call T) (Answer T))) →
-        IsLinearization (object n limit) (newer ++ older) → KeepsRealTimeOrder p older }
+        IsLinearizationWithAnyHands (object_with_any_hands n limit) (newer ++ older) → KeepsRealTimeOrder p older }
 {}

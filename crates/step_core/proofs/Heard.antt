@@ -12,7 +12,7 @@ use Rattle.bounded_model.specs.Justified.{Sometime}
 use Rattle.bounded_model.specs.Machine.{Shape, state, put_on, without_first}
 use Rattle.bounded_model.proofs.Gathering.{gather-append}
 use Rattle.bounded_model.proofs.Histories.{no_parts, own-append}
-use Rattle.step_core.specs.Linearizable.{Operation, Object, Entry, Invokes, Responds, Hand, Updates, Reads, Stage, Rests, Pending, TookEffect, without_points, events, stage, IsLinearization}
+use Rattle.step_core.specs.Linearizable.{Operation, Object, Entry, Invokes, Responds, Hand, Updates, Reads, Stage, Rests, Pending, TookEffect, without_points, events, stage, IsLinearizationWithAnyHands}
 use Rattle.step_core.proofs.Entries.{events-append, without_points-append}
 
 pub among_right : {B : Type 0} (b : B) (xs ys : List B) → Among b ys → Among b (xs ++ ys)
@@ -75,14 +75,14 @@ module _ {T C A : Type 0} (o : Object T C A) where
     pub is : course ≡ newer ++ older
     pub right : Right k.by k.call k.answer (events newer) (events older)
     pub waits : stage p older ≡ Pending k.call
-    pub run : IsLinearization o older
+    pub run : IsLinearizationWithAnyHands o older
 
   -- a pending operation has its invocation
   record Asked (p : ℕ) (call : C) (course : Course) : Type 0 where
     since : Course
     before : Course
     is : course ≡ since ++ Invokes p call ∷ before
-    run : IsLinearization o before
+    run : IsLinearizationWithAnyHands o before
 
   -- what the stage of a pass says of its operation
   abbrev Found : ℕ → Stage C A → Course → Type 0
@@ -105,7 +105,7 @@ module _ {T C A : Type 0} (o : Object T C A) where
     run = f.run;
   }
 
-  found : (p : ℕ) (course : Course) → IsLinearization o course → Found p (stage p course) course
+  found : (p : ℕ) (course : Course) → IsLinearizationWithAnyHands o course → Found p (stage p course) course
   found p [] r = tt
   found p (Invokes q call ∷ course) r = ⊎_elim
       (λ t. rw t.0 (record { since = []; before = course; is = ap (λ (i : ℕ). Invokes i call ∷ course) t.1; run = r.1 }))
@@ -127,11 +127,11 @@ module _ {T C A : Type 0} (o : Object T C A) where
       (λ t. rw t.0 (more p (stage p course) (Reads k) course (found p course r.2)))
       (eqb_tells k.by p)
 
-  asked : (p : ℕ) (call : C) (course : Course) → IsLinearization o course → stage p course ≡ Pending call → Asked p call course
+  asked : (p : ℕ) (call : C) (course : Course) → IsLinearizationWithAnyHands o course → stage p course ≡ Pending call → Asked p call course
   asked p call course r waits = subst (λ (s : Stage C A). Found p s course) waits (found p course r)
 
   -- a response is that of an operation that has taken effect
-  pub heard : (p : ℕ) (x : Option A) (course : Course) → IsLinearization o course → Among (Responds p x) (without_points course) → Placed p x course
+  pub heard : (p : ℕ) (x : Option A) (course : Course) → IsLinearizationWithAnyHands o course → Among (Responds p x) (without_points course) → Placed p x course
   heard p x [] r there = absurd there
   heard p x (Invokes q call ∷ course) r there = ⊎_elim
       (λ e. let no : Responds p x ≡ Invokes q call = e in cc)
@@ -149,14 +149,14 @@ module _ {T C A : Type 0} (o : Object T C A) where
   heard p x (Reads k ∷ course) r there = more p (TookEffect x) (Reads k) course (heard p x course r.2 there)
 
   -- so each response has an answer, and it is right
-  pub none_heard : (p : ℕ) (course : Course) → IsLinearization o course → Among (Responds p none) (without_points course) → ⊥
+  pub none_heard : (p : ℕ) (course : Course) → IsLinearizationWithAnyHands o course → Among (Responds p none) (without_points course) → ⊥
   none_heard p course r there = let x = heard p none course r there in absurd (some-ne-none x.k.answer x.given)
 
   pub right_as : (p : ℕ) (a : A) (course : Course) (x : Placed p (some a) course) → Right x.k.by x.k.call a (events x.newer) (events x.older)
   right_as p a course x = subst (λ (b : A). Right x.k.by x.k.call b (events x.newer) (events x.older)) (some-injective x.k.answer a x.given) x.right
 
   -- and where none puts a value, it takes effect while there is none
-  pub heard_of_none : (p : ℕ) (a : A) (course : Course) → IsLinearization o course → Among (Responds p (some a)) (without_points course) → gather put_of (events course) ≡ []
+  pub heard_of_none : (p : ℕ) (a : A) (course : Course) → IsLinearizationWithAnyHands o course → Among (Responds p (some a)) (without_points course) → gather put_of (events course) ≡ []
       → (by : ℕ) × (call : C) × (newer : List (Event T)) × (older : List (Event T)) × Right by call a newer older × ((state o.shape older).values ≡ [])
   heard_of_none p a course r there none_put =
       let x = heard p (some a) course r there in
@@ -172,7 +172,7 @@ module _ {T C A : Type 0} (o : Object T C A) where
     pub since : List (Event T)
     pub is : events later.older ≡ since ++ events before
 
-  pub in_order : (x y : Option A) (c d : C) (course : Course) → IsLinearization o course → without_points course ≡ Responds 0 x ∷ Invokes 0 c ∷ Responds 1 y ∷ Invokes 1 d ∷ [] → InOrder x y course
+  pub in_order : (x y : Option A) (c d : C) (course : Course) → IsLinearizationWithAnyHands o course → without_points course ≡ Responds 0 x ∷ Invokes 0 c ∷ Responds 1 y ∷ Invokes 1 d ∷ [] → InOrder x y course
   in_order x y c d course r is =
       let later = heard 0 x course r (subst (Among (Responds 0 x)) (sym is) (inl refl)) in
       let begin = asked 0 later.k.call later.older later.run later.waits in
@@ -212,7 +212,7 @@ module _ {T C A : Type 0} (o : Object T C A) where
           let none : more ++ older ≡ [] = cc in
           absurd (subst (Among (Put p vs 0)) (no_parts more older none).1 among)
 
-      pub stale : (take put : C) (course : Course) → IsLinearization o course → without_points course ≡ Responds 0 (some no_value) ∷ Invokes 0 take ∷ Responds 1 (some put_done) ∷ Invokes 1 put ∷ [] → events course ≡ one_value → ⊥
+      pub stale : (take put : C) (course : Course) → IsLinearizationWithAnyHands o course → without_points course ≡ Responds 0 (some no_value) ∷ Invokes 0 take ∷ Responds 1 (some put_done) ∷ Invokes 1 put ∷ [] → events course ≡ one_value → ⊥
       stale take put course r same_calls same_history =
           let x = in_order (some no_value) (some put_done) take put course r same_calls in
           let later = x.later in

@@ -1,18 +1,37 @@
--- The operations of a linearization keep real time order.
+-- The operations of a linearization keep real time order, whatever the hands hold.
 use Rattle.std.proofs.Common.{◌≡◌, ℕ, List, [], ◌∷◌, ◌++◌, refl, sym, ap, ◌∙◌, subst, ⊎_elim, inl, inr}
 use Rattle.std.proofs.lemmas.Bool.Decides.{eqb_tells}
 use mathlib.Core.Option.{Option, some}
-use Rattle.step_core.specs.Linearizable.{Object, Entry, Invokes, Responds, Hand, Updates, Reads, Stage, Rests, Pending, TookEffect, without_points, stage, IsLinearization, effective, pending_call, completed, KeepsRealTimeOrder}
+use Rattle.bounded_model.specs.declared.history.Event.{Event}
+use Rattle.step_core.specs.Linearizable.{Operation, Object, Entry, Invokes, Responds, Hand, Updates, Reads, Stage, Rests, Pending, TookEffect, without_points, stage, events, IsLinearization, IsLinearizationWithAnyHands, effective, pending_call, completed, KeepsRealTimeOrder}
 
 module _ {T C A : Type 0} (o : Object T C A) where
   -- an older part of a run is a run
-  run_before : (a b : List (Entry T C A)) → IsLinearization o (a ++ b) → IsLinearization o b
+  pub run_before : (a b : List (Entry T C A)) → IsLinearization o (a ++ b) → IsLinearization o b
   run_before [] b r = r
   run_before (Invokes p call ∷ a) b r = run_before a b r.1
-  run_before (Responds p x ∷ a) b r = run_before a b r.1
-  run_before (Hand e ∷ a) b r = run_before a b r.2
-  run_before (Updates k e ∷ a) b r = run_before a b r.3
+  run_before (Responds p x ∷ a) b r = run_before a b r.2
+  run_before (Hand e ∷ a) b r = run_before a b r.3
+  run_before (Updates k e ∷ a) b r = run_before a b r.4
   run_before (Reads k ∷ a) b r = run_before a b r.2
+
+  -- also with any hands
+  any_before : (a b : List (Entry T C A)) → IsLinearizationWithAnyHands o (a ++ b) → IsLinearizationWithAnyHands o b
+  any_before [] b r = r
+  any_before (Invokes p call ∷ a) b r = any_before a b r.1
+  any_before (Responds p x ∷ a) b r = any_before a b r.1
+  any_before (Hand e ∷ a) b r = any_before a b r.2
+  any_before (Updates k e ∷ a) b r = any_before a b r.3
+  any_before (Reads k ∷ a) b r = any_before a b r.2
+
+  -- a linearization is one with any hands, for an object that takes each answer that this one takes
+  pub with_any_hands : (reads : Operation C A → List (Event T) → Type 0) → ((k : Operation C A) (h : List (Event T)) → o.reads k h → reads k h) → (course : List (Entry T C A)) → IsLinearization o course → IsLinearizationWithAnyHands (record o { reads = reads }) course
+  with_any_hands reads right [] r = tt
+  with_any_hands reads right (Invokes p call ∷ course) r = (r.0, with_any_hands reads right course r.1)
+  with_any_hands reads right (Responds p x ∷ course) r = (r.0, with_any_hands reads right course r.2)
+  with_any_hands reads right (Hand e ∷ course) r = (r.0, r.2, with_any_hands reads right course r.3)
+  with_any_hands reads right (Updates k e ∷ course) r = (r.0, r.1, r.3, with_any_hands reads right course r.4)
+  with_any_hands reads right (Reads k ∷ course) r = (r.0, right k (events course) r.1, with_any_hands reads right course r.2)
 
   module _ (p : ℕ) where
     -- Where a pass is in a course, and where in its conversation; which operations of its have taken effect, and
@@ -29,7 +48,7 @@ module _ {T C A : Type 0} (o : Object T C A) where
     here : (q : ℕ) (s : Stage C A) (course : List (Entry T C A)) → q ≡ p → stage q course ≡ s → At (stage p course) course → At s course
     here q s course mine is w = subst (λ (u : Stage C A). At u course) (ap (λ (i : ℕ). stage i course) (sym mine) ∙ is) w
 
-    where_it_is : (course : List (Entry T C A)) → IsLinearization o course → At (stage p course) course
+    where_it_is : (course : List (Entry T C A)) → IsLinearizationWithAnyHands o course → At (stage p course) course
     where_it_is [] r = refl
     where_it_is (Invokes q call ∷ course) r = ⊎_elim
         (λ t. rw t.0 (refl, here q Rests course t.1 r.0 (where_it_is course r.1)))
@@ -58,5 +77,5 @@ module _ {T C A : Type 0} (o : Object T C A) where
     in_time (TookEffect x) course w = inr (w.0, w.1, w.3, w.4 ∙ ap (λ (y : Option A). (some w.0, y) ∷ completed p (without_points course)) w.2)
 
   -- wherever a course is cut
-  pub keeps_time : (newer older : List (Entry T C A)) → IsLinearization o (newer ++ older) → (p : ℕ) → KeepsRealTimeOrder p older
-  keeps_time newer older r p = in_time p (stage p older) older (where_it_is p older (run_before newer older r))
+  pub keeps_time : (newer older : List (Entry T C A)) → IsLinearizationWithAnyHands o (newer ++ older) → (p : ℕ) → KeepsRealTimeOrder p older
+  keeps_time newer older r p = in_time p (stage p older) older (where_it_is p older (any_before newer older r))

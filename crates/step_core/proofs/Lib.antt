@@ -1,7 +1,9 @@
 pub mod Entries
+pub mod Holding
 pub mod Points
 pub mod InTime
 pub mod Heard
+pub mod Full
 pub mod Falls
 pub mod list
 pub mod stack

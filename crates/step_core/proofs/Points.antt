@@ -7,16 +7,17 @@ use Rattle.std.proofs.lemmas.List.{append_cancel_right}
 use mathlib.Core.Option.{Option, none, some}
 use lib.ListN.{get_elem?}
 use Rattle.bounded_model.specs.declared.history.Event.{Event}
-use Rattle.bounded_model.specs.Histories.{own}
+use Rattle.bounded_model.specs.Histories.{own, Later}
 use Rattle.bounded_model.specs.Justified.{Sometime}
-use Rattle.bounded_model.specs.Machine.{Legal}
+use Rattle.bounded_model.specs.Machine.{state, Legal}
 use Rattle.bounded_model.proofs.Histories.{no_parts, own-append, own-between}
 use Rattle.machine.specs.Schedule.{Machine, Outcome, Pass, State, Act, Begin, Step, next, run, start, stepped, begun, acts_at}
 use Rattle.machine.proofs.Scheduled.{set_same, next_kept, start_at}
 use Rattle.machine.proofs.Stories.{Told, Stays, stays_holds}
 use Rattle.machine.proofs.Sums.{at_set}
-use Rattle.step_core.specs.Linearizable.{Operation, Object, Entry, Invokes, Responds, Reads, Rests, Pending, TookEffect, without_points, events, stage, IsLinearization, response_of, history_at, concurrent_history, Linearizable}
-use Rattle.step_core.proofs.Entries.{visible, visible-append, all_mine, single, cut, Quiets, quiet_append, quiet_first, quiet_last, without_points-append, events-append, stage-quiet, talk-insert, events-insert, quiet_insert, stage-insert, run-insert, split, hands, place}
+use Rattle.step_core.specs.Linearizable.{Operation, Object, Entry, Invokes, Responds, Reads, Rests, Pending, TookEffect, without_points, events, stage, call_of, IsLinearization, response_of, history_at, concurrent_history, Linearizable}
+use Rattle.step_core.proofs.Entries.{visible, visible-append, Mine, own_of_mine, all_mine, single, cut, Quiets, quiet_append, quiet_first, quiet_last, without_points-append, events-append, stage-quiet, call-silent, call-quiet, talk-insert, events-insert, quiet_insert, stage-insert, call-insert, run-insert, split, Fits, hands, place}
+use Rattle.step_core.proofs.Holding.{hand_after, hand_is, hand_over, Within, Balanced, unmoved, fits}
 
 abbrev called : {C A : Type 0} → ℕ → C → A → Operation C A
 called p c a = record { by = p; call = c; answer = a }
@@ -26,33 +27,50 @@ module _ {T C A : Type 0} (o : Object T C A) where
   abbrev pub Point : ℕ → C → List (Event T) → Type 0
   Point p c mine = (visible mine ≡ []) ⊎ ((a : A) × (e : Event T) × (visible mine ≡ e ∷ []) × o.updates (called p c a) e)
 
-  -- what a call that goes on has done
+  -- what a call that goes on has done: it has never had more cells in hand than it may
   pub record Going (p : ℕ) (c : C) (b seen : List (Event T)) : Type 0 where
     pub between : List (Event T)
     pub is : seen ≡ between ++ b
     pub point : Point p c (own p between)
+    pub holds : Within (o.most c) (own p between)
 
-  -- and one that has ended
+  -- and one that has ended, with none in hand
   pub record Ended (p : ℕ) (c : C) (answer : Option A) (b seen : List (Event T)) : Type 0 where
     pub a : A
     pub heard : answer ≡ some a
     pub between : List (Event T)
     pub is : seen ≡ between ++ b
+    pub holds : Balanced (o.most c) (own p between)
     pub point : ((visible (own p between) ≡ []) × Sometime b seen (λ h. o.reads (called p c a) h)) ⊎ ((e : Event T) × (visible (own p between) ≡ e ∷ []) × o.updates (called p c a) e)
 
   -- Of what a call has made, where its answer is justified: the object gives that answer, with what else it says
   module _ (IsRight : List (Event T) → List (Event T) → A → Type 0) (p : ℕ) (c : C) (a : A) (b seen : List (Event T)) where
+    -- if the call has made no event, its pass has had nothing in hand since its begin
+    abbrev pub Idles : List (Event T) → Type 0
+    Idles mine = mine ≡ [] → (h : List (Event T)) → Later b h → Later h seen → (state o.shape h).hand p ≡ 0
+
     abbrev pub Given : List (Event T) → Type 0
-    Given mine = ((visible mine ≡ []) × (IsRight b seen a → Sometime b seen (λ h. o.reads (called p c a) h))) ⊎ ((e : Event T) × (visible mine ≡ e ∷ []) × o.updates (called p c a) e)
+    Given mine = ((visible mine ≡ []) × (IsRight b seen a → Idles mine → Sometime b seen (λ h. o.reads (called p c a) h))) ⊎ ((e : Event T) × (visible mine ≡ e ∷ []) × o.updates (called p c a) e)
 
     pub point_of : (mine : List (Event T)) → Given mine → Point p c mine
     point_of mine g = ⊎_elim (λ r. inl r.0) (λ r. inr (a, r.0, r.1, r.2)) g
 
-    pub ended_by : (between : List (Event T)) → seen ≡ between ++ b → Given (own p between) → IsRight b seen a → Ended p c (some a) b seen
-    ended_by between is g right = record { a = a; heard = refl; between = between; is = is; point = ⊎_elim (λ r. inl (r.0, r.1 right)) (λ r. inr r) g }
+    pub ended_by : (between : List (Event T)) → seen ≡ between ++ b → hand_after (own p b) ≡ 0 → Given (own p between) → Balanced (o.most c) (own p between) → IsRight b seen a → Ended p c (some a) b seen
+    ended_by between is empty g holds right = record {
+      a = a;
+      heard = refl;
+      between = between;
+      is = is;
+      holds = holds;
+      point = ⊎_elim (λ r. inl (r.0, r.1 right (unmoved o.shape p b seen between is empty))) (λ r. inr r) g;
+    }
 
 pub with : {T X : Type 0} {b seen : List (Event T)} {P : List (Event T) → Type 0} → X → Sometime b seen P → Sometime b seen (λ h. X × P h)
 with w s = record { at = s.at; since = s.since; until = s.until; holds = (w, s.holds) }
+
+-- and with what holds of each history of that time
+pub with_each : {T X : Type 0} {b seen : List (Event T)} {P Q : List (Event T) → Type 0} → X → ((h : List (Event T)) → Later b h → Later h seen → Q h) → Sometime b seen P → Sometime b seen (λ h. X × P h × Q h)
+with_each w each s = record { at = s.at; since = s.since; until = s.until; holds = (w, s.holds, each s.at s.since s.until) }
 
 -- What a rule and a story of a machine say of the object's calls
 pub record Speaks {M L T C A : Type 0} (x : Machine M L C (Event T)) (answer : L → Option A) (o : Object T C A) (Rule : M → List L → List (Event T) → Type 0) (Story : ℕ → Option C → L → List (Event T) → List (Event T) → Type 0) : Type 0 where
@@ -60,8 +78,8 @@ pub record Speaks {M L T C A : Type 0} (x : Machine M L C (Event T)) (answer : L
   pub rest_idle : (p : ℕ) → x.is_idle (x.rest p) ≡ true
   pub starts_busy : (call : C) (l : L) → x.is_idle (x.starts call l) ≡ false
   pub unbegun : (p : ℕ) (l : L) (b seen : List (Event T)) → Story p none l b seen → x.is_idle l ≡ true
-  pub going : (p : ℕ) (c : C) (l : L) (b seen : List (Event T)) → Story p (some c) l b seen → x.is_idle l ≡ false → Going o p c b seen
-  pub ended : (p : ℕ) (c : C) (l : L) (b seen : List (Event T)) → Story p (some c) l b seen → x.is_idle l ≡ true → Ended o p c (answer l) b seen
+  pub going : (p : ℕ) (c : C) (l : L) (b seen : List (Event T)) → Legal o.shape seen → Story p (some c) l b seen → x.is_idle l ≡ false → Going o p c b seen
+  pub ended : (p : ℕ) (c : C) (l : L) (b seen : List (Event T)) → Legal o.shape seen → hand_after (own p b) ≡ 0 → Story p (some c) l b seen → x.is_idle l ≡ true → Ended o p c (answer l) b seen
   pub one_answer : (p : ℕ) (c : C) (a a' : A) (e : Event T) → o.updates (called p c a) e → o.updates (called p c a') e → a ≡ a'
 
 module _ {M L T C A : Type 0} (x : Machine M L C (Event T)) (answer : L → Option A) (o : Object T C A) where
@@ -83,10 +101,13 @@ module _ {M L T C A : Type 0} (x : Machine M L C (Event T)) (answer : L → Opti
     is : course ≡ young ++ old
     begun_at : events old ≡ v.begun
     asked : stage p old ≡ Pending call
+    calls : call_of p course ≡ some call
+    empty : hand_after (own p v.begun) ≡ 0
     made : Made p call young old (own p (events young))
 
   record At (p : ℕ) (v : Pass L C (Event T)) (course : Course) : Type 0 where
     rests : x.is_idle v.line ≡ true → stage p course ≡ Rests
+    holds_none : x.is_idle v.line ≡ true → hand_after (own p (events course)) ≡ 0
     goes : x.is_idle v.line ≡ false → Underway p v course
 
   -- the course that a history and a state have come to
@@ -98,32 +119,38 @@ module _ {M L T C A : Type 0} (x : Machine M L C (Event T)) (answer : L → Opti
     each : (p : ℕ) (v : Pass L C (Event T)) → get_elem? s.passes p ≡ some v → At p v course
 
   -- a call goes on in a course that has grown since its begin
-  younger : {p : ℕ} {v : Pass L C (Event T)} {course course' : Course} (u : Underway p v course) (young : Course) → course' ≡ young ++ u.old → Made p u.call young u.old (own p (events young)) → Underway p v course'
-  younger u young is made = record { call = u.call; of = u.of; young = young; old = u.old; is = is; begun_at = u.begun_at; asked = u.asked; made = made }
+  younger : {p : ℕ} {v : Pass L C (Event T)} {course course' : Course} (u : Underway p v course) (young : Course) → course' ≡ young ++ u.old → call_of p course' ≡ call_of p course → Made p u.call young u.old (own p (events young)) → Underway p v course'
+  younger u young is calls made = record { call = u.call; of = u.of; young = young; old = u.old; is = is; begun_at = u.begun_at; asked = u.asked; calls = calls ∙ u.calls; empty = u.empty; made = made }
 
   -- other passes go on over entries that are nothing of theirs
   at_more : (q : ℕ) (v : Pass L C (Event T)) (more course : Course) → Quiets q more → own q (events more) ≡ [] → At q v course → At q v (more ++ course)
   at_more q v more course quiet nothing at = record {
     rests = λ idle. stage-quiet q more course quiet ∙ at.rests idle;
+    holds_none = λ idle. ap hand_after (same course) ∙ at.holds_none idle;
     goes = λ busy. more_goes (at.goes busy);
   }
     where
+      same : (under : Course) → own q (events (more ++ under)) ≡ own q (events under)
+      same under = ap (own q) (events-append more under) ∙ own-append q (events more) (events under) ∙ ap (λ (l : List (Event T)). l ++ own q (events under)) nothing
+
       more_goes : Underway q v course → Underway q v (more ++ course)
       more_goes u =
-          let same : own q (events (more ++ u.young)) ≡ own q (events u.young) =
-          ap (own q) (events-append more u.young) ∙ own-append q (events more) (events u.young) ∙ ap (λ (l : List (Event T)). l ++ own q (events u.young)) nothing in
-          younger u (more ++ u.young) (ap (λ (l : Course). more ++ l) u.is ∙ sym (append_assoc more u.young u.old)) (⊎_elim
-          (λ w. inl (quiet_append q more u.young quiet w.0, ap visible same ∙ w.1))
-          (λ w. inr (w.0, w.1, ap (stage q) (append_assoc more u.young u.old) ∙ stage-quiet q more (u.young ++ u.old) quiet ∙ w.2, ap visible same ∙ w.3, w.4))
+          younger u (more ++ u.young) (ap (λ (l : Course). more ++ l) u.is ∙ sym (append_assoc more u.young u.old)) (call-quiet q more course quiet) (⊎_elim
+          (λ w. inl (quiet_append q more u.young quiet w.0, ap visible (same u.young) ∙ w.1))
+          (λ w. inr (w.0, w.1, ap (stage q) (append_assoc more u.young u.old) ∙ stage-quiet q more (u.young ++ u.old) quiet ∙ w.2, ap visible (same u.young) ∙ w.3, w.4))
           u.made)
 
   -- and over a point of another pass that is put in
   at_insert : (q : ℕ) (v : Pass L C (Event T)) (k : Operation C A) (a b course : Course) → k.by ≢ q → course ≡ a ++ b → At q v course → At q v (a ++ Reads k ∷ b)
   at_insert q v k a b course ne is at = record {
     rests = λ idle. stage-insert k q ne a b ∙ ap (stage q) (sym is) ∙ at.rests idle;
+    holds_none = λ idle. ap (λ (h : List (Event T)). hand_after (own q h)) (events-insert k a b ∙ ap events (sym is)) ∙ at.holds_none idle;
     goes = λ busy. insert_goes (at.goes busy);
   }
     where
+      calls : call_of q (a ++ Reads k ∷ b) ≡ call_of q course
+      calls = call-insert k q a b ∙ ap (call_of q) (sym is)
+
       insert_goes : Underway q v course → Underway q v (a ++ Reads k ∷ b)
       insert_goes u = ⊎_elim above below (cut u.young u.old a b (sym u.is ∙ is))
         where
@@ -133,7 +160,7 @@ module _ {M L T C A : Type 0} (x : Machine M L C (Event T)) (answer : L → Opti
               let same : events young ≡ events u.young = events-insert k a m.0 ∙ ap events (sym m.1) in
               let at_stage : stage q (young ++ u.old) ≡ stage q (u.young ++ u.old) =
               ap (stage q) (append_assoc a (Reads k ∷ m.0) u.old) ∙ stage-insert k q ne a (m.0 ++ u.old) ∙ ap (stage q) (sym (append_assoc a m.0 u.old)) ∙ ap (λ (l : Course). stage q (l ++ u.old)) (sym m.1) in
-              younger u young (ap (λ (l : Course). a ++ Reads k ∷ l) m.2 ∙ sym (append_assoc a (Reads k ∷ m.0) u.old)) (⊎_elim
+              younger u young (ap (λ (l : Course). a ++ Reads k ∷ l) m.2 ∙ sym (append_assoc a (Reads k ∷ m.0) u.old)) calls (⊎_elim
               (λ w. inl (quiet_insert k q ne a m.0 (subst (Quiets q) m.1 w.0), ap (λ (l : List (Event T)). visible (own q l)) same ∙ w.1))
               (λ w. inr (w.0, w.1, at_stage ∙ w.2, ap (λ (l : List (Event T)). visible (own q l)) same ∙ w.3, w.4))
               u.made)
@@ -151,6 +178,8 @@ module _ {M L T C A : Type 0} (x : Machine M L C (Event T)) (answer : L → Opti
                 is = ap (λ (l : Course). l ++ Reads k ∷ b) m.2 ∙ append_assoc u.young m.0 (Reads k ∷ b);
                 begun_at = events-insert k m.0 b ∙ ap events (sym m.1) ∙ u.begun_at;
                 asked = stage-insert k q ne m.0 b ∙ ap (stage q) (sym m.1) ∙ u.asked;
+                calls = calls ∙ u.calls;
+                empty = u.empty;
                 made = ⊎_elim
                     (λ w. inl w)
                     (λ w. inr (w.0, w.1, at_stage ∙ w.2, w.3, w.4))
@@ -166,9 +195,9 @@ module _ {M L T C A : Type 0} (x : Machine M L C (Event T)) (answer : L → Opti
     quiet : (q : ℕ) → p ≢ q → Quiets q more
     made : (Quiets p (more ++ young) × (visible mine ≡ [])) ⊎ ((a : A) × (e : Event T) × (stage p (more ++ course) ≡ TookEffect (some a)) × (visible mine ≡ e ∷ []) × o.updates (called p c a) e)
 
-  extended : (p : ℕ) (v : Pass L C (Event T)) (course : Course) (u : Underway p v course) (es mine : List (Event T)) → IsLinearization o course → Legal o.shape (es ++ events course) → mine ≡ es ++ own p (events u.young) → Point o p u.call mine
+  extended : (p : ℕ) (v : Pass L C (Event T)) (course : Course) (u : Underway p v course) (es mine : List (Event T)) → IsLinearization o course → Legal o.shape (es ++ events course) → Mine p es → mine ≡ es ++ own p (events u.young) → Point o p u.call mine → Within (o.most u.call) mine
       → Extended p u.call u.young course es mine
-  extended p v course u es mine right legal is point = ⊎_elim
+  extended p v course u es mine right legal all_own is point within = ⊎_elim
       (λ w. ⊎_elim (λ nothing. quiet_step w (no_parts (visible es) before (sym parts ∙ nothing)).0 nothing) (λ one. placed w one) point)
       (λ w. ⊎_elim (λ nothing. let e' : w.1 ∷ [] ≡ [] = sym w.3 ∙ (no_parts (visible es) before (sym parts ∙ nothing)).1 in cc) (λ one. kept w one) point)
       u.made
@@ -179,8 +208,14 @@ module _ {M L T C A : Type 0} (x : Machine M L C (Event T)) (answer : L → Opti
       parts : visible mine ≡ visible es ++ before
       parts = ap visible is ∙ visible-append es (own p (events u.young))
 
+      -- the call holds no more than it may
+      fit : Fits o course es
+      fit = fits o p u.call course (own p (events u.young)) (own p v.begun) es
+          (ap (λ (l : Course). own p (events l)) u.is ∙ ap (own p) (events-append u.young u.old) ∙ own-append p (events u.young) (events u.old) ∙ ap (λ (h : List (Event T)). own p (events u.young) ++ own p h) u.begun_at)
+          u.empty u.calls all_own (subst (Within (o.most u.call)) is within)
+
       quiet_step : Quiets p u.young × (before ≡ []) → visible es ≡ [] → visible mine ≡ [] → Extended p u.call u.young course es mine
-      quiet_step w nothing all = let g = hands o course es nothing legal right in record {
+      quiet_step w nothing all = let g = hands o course es nothing fit legal right in record {
         more = g.more;
         makes = g.makes;
         talks = g.talks;
@@ -193,7 +228,7 @@ module _ {M L T C A : Type 0} (x : Machine M L C (Event T)) (answer : L → Opti
       placed w one =
           let visible_one : visible es ≡ one.1 ∷ [] = sym (append-nil (visible es)) ∙ ap (λ (l : List (Event T)). visible es ++ l) (sym w.1) ∙ sym parts ∙ one.2 in
           let waits : stage p course ≡ Pending u.call = ap (stage p) u.is ∙ stage-quiet p u.young u.old w.0 ∙ u.asked in
-          let g = place o (called p u.call one.0) course es one.1 visible_one one.3 waits legal right in
+          let g = place o (called p u.call one.0) course es one.1 visible_one one.3 waits fit legal right in
           record {
             more = g.more;
             makes = g.makes;
@@ -207,7 +242,7 @@ module _ {M L T C A : Type 0} (x : Machine M L C (Event T)) (answer : L → Opti
           → (a : A) × (e : Event T) × (visible mine ≡ e ∷ []) × o.updates (called p u.call a) e → Extended p u.call u.young course es mine
       kept w one =
           let two = single (visible es) w.1 one.1 (ap (λ (l : List (Event T)). visible es ++ l) (sym w.3) ∙ sym parts ∙ one.2) in
-          let g = hands o course es two.0 legal right in
+          let g = hands o course es two.0 fit legal right in
           record {
             more = g.more;
             makes = g.makes;
@@ -282,7 +317,19 @@ module _ {M L T C A : Type 0} (x : Machine M L C (Event T)) (answer : L → Opti
             each = all_at s p v' i.course course i.each
                 (record {
                   rests = λ idle'. absurd (false≢true (sym busy ∙ idle'));
-                  goes = λ busy'. record { call = call; of = refl; young = []; old = course; is = refl; begun_at = i.history; asked = rw (eq-eqb p p refl) refl; made = inl (tt, refl) };
+                  holds_none = λ idle'. absurd (false≢true (sym busy ∙ idle'));
+                  goes = λ busy'. record {
+                    call = call;
+                    of = refl;
+                    young = [];
+                    old = course;
+                    is = refl;
+                    begun_at = i.history;
+                    asked = rw (eq-eqb p p refl) refl;
+                    calls = rw (eq-eqb p p refl) refl;
+                    empty = ap (λ (h : List (Event T)). hand_after (own p h)) (sym i.history) ∙ (i.each p v e).holds_none idle;
+                    made = inl (tt, refl);
+                  };
                 })
                 (λ q w ne at. at_more q w (Invokes p call ∷ []) i.course (ne, tt) refl at);
           }
@@ -309,8 +356,14 @@ module _ {M L T C A : Type 0} (x : Machine M L C (Event T)) (answer : L → Opti
         apart : (q : ℕ) → q ≢ p → own q es ≡ []
         apart q ne = own-between q es s.history (t.apart s.memory s.history p q v.line ne)
 
+        legal_after : Legal o.shape newer
+        legal_after = says.legal out.memory (map (λ w. w.line) (set s.passes p v')) newer kept.rule
+
         legal : Legal o.shape (es ++ events i.course)
-        legal = subst (λ (h : List (Event T)). Legal o.shape (es ++ h)) (sym i.history) (says.legal out.memory (map (λ w. w.line) (set s.passes p v')) newer kept.rule)
+        legal = subst (λ (h : List (Event T)). Legal o.shape (es ++ h)) (sym i.history) legal_after
+
+        all_own : Mine p es
+        all_own = all_mine p es apart
 
         story : Story p (some u.call) out.line v.begun newer
         story = subst (λ (c : Option C). Story p c out.line v.begun newer) u.of (kept.story p v' (set_same s.passes p v v' e))
@@ -322,7 +375,7 @@ module _ {M L T C A : Type 0} (x : Machine M L C (Event T)) (answer : L → Opti
         between_is between is = append_cancel_right between (es ++ events u.young) v.begun (sym is ∙ newer_is)
 
         mine_is : (between : List (Event T)) → newer ≡ between ++ v.begun → own p between ≡ es ++ own p (events u.young)
-        mine_is between is = ap (own p) (between_is between is) ∙ own-append p es (events u.young) ∙ ap (λ (l : List (Event T)). l ++ own p (events u.young)) (all_mine p es apart)
+        mine_is between is = ap (own p) (between_is between is) ∙ own-append p es (events u.young) ∙ ap (λ (l : List (Event T)). l ++ own p (events u.young)) (own_of_mine p es all_own)
 
         -- the course after the step's events, whatever they are
         module _ (mine : List (Event T)) (ext : Extended p u.call u.young i.course es mine) where
@@ -338,13 +391,17 @@ module _ {M L T C A : Type 0} (x : Machine M L C (Event T)) (answer : L → Opti
           others' : (q : ℕ) (w : Pass L C (Event T)) → p ≢ q → At q w i.course → At q w course'
           others' q w ne at = at_more q w ext.more i.course (ext.quiet q ne) (ap (own q) ext.makes ∙ apart q (λ same. ne (sym same))) at
 
+          -- the pass is still in its call
+          calls' : call_of p course' ≡ some u.call
+          calls' = call-silent p ext.more i.course ext.talks ∙ u.calls
+
           parts' : (ext.more ++ u.young) ++ u.old ≡ course'
           parts' = append_assoc ext.more u.young u.old ∙ ap (λ (l : Course). ext.more ++ l) (sym u.is)
 
         goes_on_lined : Going o p u.call v.begun newer → x.is_idle out.line ≡ false → Lined conv (stepped x s p v out)
         goes_on_lined g busy' =
             let mine : List (Event T) = own p g.between in
-            let ext = extended p v i.course u es mine i.right legal (mine_is g.between g.is) g.point in
+            let ext = extended p v i.course u es mine i.right legal all_own (mine_is g.between g.is) g.point g.holds in
             let same : events (ext.more ++ u.young) ≡ g.between = events-append ext.more u.young ∙ ap (λ (l : List (Event T)). l ++ events u.young) ext.makes ∙ sym (between_is g.between g.is) in
             let seen : visible (own p (events (ext.more ++ u.young))) ≡ visible mine = ap (λ (l : List (Event T)). visible (own p l)) same in
             record {
@@ -355,6 +412,7 @@ module _ {M L T C A : Type 0} (x : Machine M L C (Event T)) (answer : L → Opti
               each = all_at s p v' i.course (ext.more ++ i.course) i.each
                   (record {
                     rests = λ idle. absurd (false≢true (sym busy' ∙ idle));
+                    holds_none = λ idle. absurd (false≢true (sym busy' ∙ idle));
                     goes = λ _. record {
                       call = u.call;
                       of = u.of;
@@ -363,6 +421,8 @@ module _ {M L T C A : Type 0} (x : Machine M L C (Event T)) (answer : L → Opti
                       is = sym (parts' mine ext);
                       begun_at = u.begun_at;
                       asked = u.asked;
+                      calls = calls' mine ext;
+                      empty = u.empty;
                       made = ⊎_elim
                           (λ w. inl (w.0, seen ∙ w.1))
                           (λ w. inr (w.0, w.1, ap (stage p) (parts' mine ext) ∙ w.2, seen ∙ w.3, w.4))
@@ -409,16 +469,22 @@ module _ {M L T C A : Type 0} (x : Machine M L C (Event T)) (answer : L → Opti
         ends_lined f idle =
             let mine : List (Event T) = own p f.between in
             let point : Point o p u.call mine = ⊎_elim (λ r. inl r.0) (λ r. inr (f.a, r.0, r.1, r.2)) f.point in
-            let ext = extended p v i.course u es mine i.right legal (mine_is f.between f.is) point in
+            let ext = extended p v i.course u es mine i.right legal all_own (mine_is f.between f.is) point f.holds.0 in
             let y = answered f ext in
             let heard : Entry T C A = Responds p (answer out.line) in
+            let now_is : events y.now ≡ newer = y.made ∙ history' mine ext in
+            let empty : hand_after (own p newer) ≡ 0 = ap hand_after (ap (own p) f.is ∙ own-append p f.between v.begun) ∙ hand_over mine (own p v.begun) u.empty ∙ f.holds.1 in
             record {
               course = heard ∷ y.now;
               talks = ap (λ (l : Course). heard ∷ l) (y.talks ∙ talks' mine ext);
-              right = (y.has ∙ ap (λ (a : Option A). TookEffect a) (sym f.heard), y.right);
-              history = y.made ∙ history' mine ext;
+              right = (y.has ∙ ap (λ (a : Option A). TookEffect a) (sym f.heard), ap (λ (h : List (Event T)). (state o.shape h).hand p) now_is ∙ hand_is o.shape p newer ∙ empty, y.right);
+              history = now_is;
               each = all_at s p v' i.course (heard ∷ y.now) i.each
-                  (record { rests = λ _. rw (eq-eqb p p refl) refl; goes = λ busy'. absurd (false≢true (sym busy' ∙ idle)) })
+                  (record {
+                    rests = λ _. rw (eq-eqb p p refl) refl;
+                    holds_none = λ _. ap (λ (h : List (Event T)). hand_after (own p h)) now_is ∙ empty;
+                    goes = λ busy'. absurd (false≢true (sym busy' ∙ idle));
+                  })
                   (λ q w ne at. at_more q w (heard ∷ []) y.now (ne, tt) refl (y.others q w ne (others' mine ext q w ne at)));
             }
 
@@ -426,8 +492,8 @@ module _ {M L T C A : Type 0} (x : Machine M L C (Event T)) (answer : L → Opti
         stepped_lined = go (x.is_idle out.line) refl
           where
             go : (b : Bool) → x.is_idle out.line ≡ b → Lined (cond b (Responds p (answer out.line) ∷ []) [] ++ conv) (stepped x s p v out)
-            go true idle = ends_lined (says.ended p u.call out.line v.begun newer story idle) idle
-            go false busy' = goes_on_lined (says.going p u.call out.line v.begun newer story busy') busy'
+            go true idle = ends_lined (says.ended p u.call out.line v.begun newer legal_after u.empty story idle) idle
+            go false busy' = goes_on_lined (says.going p u.call out.line v.begun newer legal_after story busy') busy'
 
     acts_lined : (conv : Course) (s : State M L C (Event T)) (p : ℕ) (a : Act C) (w : Option (Pass L C (Event T))) → Keeps s → Lined conv s → get_elem? s.passes p ≡ w → Lined (history_at x answer s p a w ++ conv) (acts_at x s p a w)
     acts_lined conv s p a none k i e = i
@@ -457,6 +523,7 @@ module _ {M L T C A : Type 0} (x : Machine M L C (Event T)) (answer : L → Opti
       history = refl;
       each = λ p v e. record {
         rests = λ idle. refl;
+        holds_none = λ idle. refl;
         goes = λ busy. absurd (false≢true (sym busy ∙ ap (λ (w : Pass L C (Event T)). x.is_idle w.line) (sym (start_at x passes p v e)) ∙ says.rest_idle p));
       };
     }

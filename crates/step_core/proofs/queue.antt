@@ -7,3 +7,6 @@ pub mod Ends
 pub mod Mistakes
 pub mod WrongAnswers
 pub mod WrongRuns
+pub mod Full
+pub mod WrongHands
+pub mod AnyHands

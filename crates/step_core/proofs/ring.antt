@@ -8,3 +8,6 @@ pub mod InOrder
 pub mod Mistakes
 pub mod WrongAnswers
 pub mod WrongRuns
+pub mod Full
+pub mod WrongHands
+pub mod AnyHands

@@ -17,17 +17,17 @@ mod stack_shown;
 pub use list_laws::list_core;
 pub use list_shown::list_exhibits;
 pub use queue_laws::{
-    queue_answers, queue_bound, queue_core, queue_linearizable, queue_lock_free, queue_nodes,
-    queue_order, queue_rule,
+    queue_answers, queue_bound, queue_core, queue_full_means_full, queue_linearizable,
+    queue_lock_free, queue_nodes, queue_order, queue_rule,
 };
 pub use queue_shown::{queue_exhibits, queue_near_misses};
 pub use ring_laws::{
-    ring_answers, ring_bound, ring_cells, ring_core, ring_linearizable, ring_lock_free, ring_order,
-    ring_rule,
+    ring_answers, ring_bound, ring_cells, ring_core, ring_full_means_full, ring_linearizable,
+    ring_lock_free, ring_order, ring_rule,
 };
 pub use ring_shown::{ring_exhibits, ring_near_misses};
 pub use stack_laws::{
-    stack_answers, stack_bound, stack_core, stack_linearizable, stack_lock_free, stack_nodes,
-    stack_rule,
+    stack_answers, stack_bound, stack_core, stack_full_means_full, stack_linearizable,
+    stack_lock_free, stack_nodes, stack_rule,
 };
 pub use stack_shown::{stack_exhibits, stack_near_misses};

@@ -1,9 +1,11 @@
 //! The laws of the queue's machine (Michael and Scott 1996), in the words of Herlihy and Wing (1990)
 //! and Herlihy (1991, 1993).
-ghost use Rattle.std.specs.Prelude.{◌≡◌, ℕ, suc, ◌+◌, ◌*◌, ◌<◌, ◌≤◌, List, ◌++◌};
+ghost use Rattle.std.specs.Prelude.{◌≡◌, ℕ, suc, ◌+◌, ◌*◌, ◌<◌, ◌≤◌, List, ◌++◌, ◌≢◌, ◌∷◌, length};
 ghost use mathlib.Core.Option.{some};
 ghost use lib.ListN.{get_elem?};
 ghost use Rattle.tagged_index.specs.declared.word.TheConstants.{NULL};
+ghost use Rattle.bounded_model.specs.declared.history.Event.{Event};
+ghost use Rattle.bounded_model.specs.Histories.{pass_of};
 ghost use Rattle.bounded_model.specs.Gathers.{gather, sent_of, took_of, values_of, Counts};
 ghost use Rattle.machine.specs.Schedule.{Act, Schedule, start, after, next};
 ghost use Rattle.machine.specs.Bound.{IsStretch, own_steps};
@@ -12,10 +14,10 @@ ghost use Rattle.queue_machine.specs.declared.lines.Answer.{Answer};
 ghost use Rattle.queue_machine.specs.declared.lines.Call.{Call};
 ghost use Rattle.queue_machine.specs.declared.lines.Line.{Line};
 ghost use Rattle.queue_machine.specs.Machine.{State, queue, step};
-ghost use Rattle.queue_machine.specs.Answers.{shape};
+ghost use Rattle.queue_machine.specs.Answers.{shape, state};
 ghost use Rattle.queue_machine.specs.Places.{NothingTwice, WinsUnheld};
-ghost use Rattle.step_core.specs.Linearizable.{Entry, IsLinearization, KeepsRealTimeOrder, Linearizable};
-ghost use Rattle.step_core.specs.queue.Object.{object, answer};
+ghost use Rattle.step_core.specs.Linearizable.{Entry, Hand, Rests, most_of, events, stage, call_of, under_way, most_in_hand, IsLinearization, IsLinearizationWithAnyHands, KeepsRealTimeOrder, Linearizable};
+ghost use Rattle.step_core.specs.queue.Object.{object, object_with_any_hands, answer, full_put};
 ghost use Rattle.step_core.specs.queue.Law.{Lawful, AllDone, NoneUnanswered, lines_of, values_left};
 ghost use Rattle.step_core.specs.queue.Bound.{MeetsRule};
 ghost use Rattle.step_core.specs.queue.Costs.{cost};
@@ -140,10 +142,32 @@ pub fn queue_order<T>()
 /// close and a shut take effect at the compare-and-swap that makes their event. A refusal, a look,
 /// a count and a gauge take effect at a moment at which they are right. The order of the points
 /// keeps real time. At each prefix of such a history, the operations of a pass that have taken
-/// effect are those that it has completed, or these and its pending one.
+/// effect are those that it has completed, or these and its pending one. This does not need the bounds
+/// on hands, so it is stated without them (`with_any_hands`).
 pub fn queue_linearizable<T>()
     ensures points { (n limit passes : ℕ) (schedule : Schedule (Call T)) → 0 < n → n < NULL → 0 < limit →
         Linearizable (queue (shape n limit)) answer (object n limit) passes schedule }
+    ensures with_any_hands { (n limit : ℕ) (course : List (Entry T (Call T) (Answer T))) →
+        IsLinearization (object n limit) course → IsLinearizationWithAnyHands (object_with_any_hands n limit) course }
     ensures keeps_real_time_order { (n limit p : ℕ) (newer older : List (Entry T (Call T) (Answer T))) →
-        IsLinearization (object n limit) (newer ++ older) → KeepsRealTimeOrder p older }
+        IsLinearizationWithAnyHands (object_with_any_hands n limit) (newer ++ older) → KeepsRealTimeOrder p older }
+{}
+
+/// Full means full. Suppose that a put on a queue of `n` cells is refused as full while `k` other calls are
+/// under way. At the moment at which the refusal takes effect, at least `n - k` values are stored. Of the
+/// other calls only puts and takes count (`most_in_hand`): each cell that holds no value is in the hand of one of
+/// them, each of them has one at most, and the refused put has none. Hands move only during a call, and a
+/// pass that is in no call has none.
+pub fn queue_full_means_full<T>()
+    ensures hands { (n limit p : ℕ) (newer older : List (Entry T (Call T) (Answer T))) →
+        IsLinearization (object n limit) (newer ++ older) →
+        (state n limit (events older)).hand p ≤ most_of (object n limit) (call_of p older) }
+    ensures moves { (n limit : ℕ) (e : Event T) (newer older : List (Entry T (Call T) (Answer T))) →
+        IsLinearization (object n limit) (newer ++ Hand e ∷ older) → stage (pass_of e) older ≢ Rests }
+    ensures full { (n limit p : ℕ) (v u : T) (newer older : List (Entry T (Call T) (Answer T))) →
+        IsLinearization (object n limit) (newer ++ full_put p v u ∷ older) →
+        n < length (state n limit (events older)).values + most_in_hand (object n limit) older }
+    ensures by_calls { (n limit p : ℕ) (v u : T) (newer older : List (Entry T (Call T) (Answer T))) →
+        IsLinearization (object n limit) (newer ++ full_put p v u ∷ older) →
+        n < length (state n limit (events older)).values + length (under_way older) }
 {}

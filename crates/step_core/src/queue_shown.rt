@@ -9,7 +9,7 @@ ghost use Rattle.queue_machine.specs.Machine.{queue};
 ghost use Rattle.queue_machine.specs.Places.{NothingTwice};
 ghost use Rattle.queue_machine.specs.declared.lines.Answer.TheVariants.{Close, Shut, Look, Len, Gauge};
 ghost use Rattle.step_core.specs.Letters.{x, y, z};
-ghost use Rattle.step_core.specs.Linearizable.{Linearizable};
+ghost use Rattle.step_core.specs.Linearizable.{IsLinearization, Linearizable, LinearizableWithAnyHands};
 ghost use Rattle.step_core.specs.Scripts.{answers, ended};
 ghost use Rattle.step_core.specs.queue.Cast.{Plays, Fails, queue_with, cells_spent, full, no_take, put_closed, take_is};
 ghost use Rattle.step_core.specs.queue.Law.{Lawful, AllDone, NoneUnanswered, lines_of};
@@ -17,9 +17,9 @@ ghost use Rattle.step_core.specs.queue.Rows.{smallest, alone, alone_refused, ful
 ghost use Rattle.step_core.specs.queue.Overtaking.{look_and_shut, put_overtakes_close, close_overtakes_close, close_overtakes_full, full_helps, close_helps, put_left, put_dropped, looks, largest, spent_before_closed, next_spent_before_closed, null_before_limit, shut_before_empty, tail_before_link, tail_before_null_link, tail_before_node, head_before_tail, head_before_link, head_before_mark, head_before_answer, counts, gauges, PutsEnd, TakesEnd};
 ghost use Rattle.step_core.specs.queue.Orders.{limit_first, closed_first, next_limit_last, null_before_mark, link_before_tail, null_before_tail, node_before_tail, shut_last, empty_before_closed, link_before_head, mark_before_head, tail_before_null, tail_before_head, link_before_answer, count_before_head, count_to_tail, gauge_to_tail, gauge_before_next, mark_overlooked, marks_anyway, second_overlooked};
 ghost use Rattle.step_core.specs.queue.Mistakes.{hands_with_cell, hands_with_node, WinsHeld, cell_held, cell_held_twice, node_held, node_held_twice, number_again, linked_late, dummy_free, left_there, overtaken, put_after_close, take_after_shut, wrong_cell, no_node, linked_aside};
-ghost use Rattle.step_core.specs.queue.Object.{object, answer};
-ghost use Rattle.step_core.specs.queue.WrongAnswers.{put_another, handed_back, kept_cell, closed_instead};
-ghost use Rattle.step_core.specs.queue.WrongRuns.{ends_where_it_lost, lost_take, is_always_empty, stale_take, plain_object, full_of_hands, spoils_where_it_lost, starving, in_turn};
+ghost use Rattle.step_core.specs.queue.Object.{object, object_with_any_hands, answer};
+ghost use Rattle.step_core.specs.queue.WrongAnswers.{put_another, handed_back, kept_cell, closed_instead, keeps_cell, keeping};
+ghost use Rattle.step_core.specs.queue.WrongRuns.{ends_where_it_lost, lost_take, is_always_empty, stale_take, plain_object, full_of_hands, spoils_where_it_lost, starving, in_turn, resting_hand, full_of_resting_hands, second_cell, full_of_its_own};
 
 /// Rows played by the queue's machine, by single steps of up to three passes, and machines that are
 /// nearly the queue's. Each such machine has the scene that it fails: the first lines of it get
@@ -128,12 +128,19 @@ pub fn queue_near_misses()
     ensures handed_back_unlawful { ¬ AllDone handed_back }
     ensures kept_cell_unlawful { ¬ AllDone kept_cell }
     ensures closed_instead_unlawful { ¬ AllDone closed_instead }
-    // Near misses that are not linearizable, or leave a call unanswered.
+    // Near misses that are not linearizable, whatever the hands hold, or leave a call unanswered.
     ensures lost_take_unanswered { ¬ NoneUnanswered (after (queue_with ends_where_it_lost (shape 1 15)) 3 lost_take) }
-    ensures lost_take_not_linearizable { ¬ Linearizable (queue_with ends_where_it_lost (shape 1 15)) answer (object 1 15) 3 lost_take }
+    ensures lost_take_not_linearizable { ¬ LinearizableWithAnyHands (queue_with ends_where_it_lost (shape 1 15)) answer (object_with_any_hands 1 15) 3 lost_take }
     ensures stale_take_unlawful { ¬ Lawful ℕ 1 15 (after (queue_with is_always_empty (shape 1 15)) 2 stale_take) }
-    ensures stale_take_not_linearizable { ¬ Linearizable (queue_with is_always_empty (shape 1 15)) answer (object 1 15) 2 stale_take }
-    ensures full_of_hands_not_plain { ¬ Linearizable (queue (shape 1 15)) answer plain_object 3 full_of_hands }
+    ensures stale_take_not_linearizable { ¬ LinearizableWithAnyHands (queue_with is_always_empty (shape 1 15)) answer (object_with_any_hands 1 15) 2 stale_take }
+    ensures full_of_hands_not_plain { ¬ LinearizableWithAnyHands (queue (shape 1 15)) answer plain_object 3 full_of_hands }
+    // Courses that are no linearizations: hands of passes that are in no call, more cells than a call may have, and a
+    // refusal as full for the own cell.
+    ensures resting_hand_refused { ¬ IsLinearization (object 1 1) resting_hand }
+    ensures full_of_resting_hands_refused { ¬ IsLinearization (object 1 1) full_of_resting_hands }
+    ensures second_cell_refused { ¬ IsLinearization (object 2 1) second_cell }
+    ensures full_of_its_own_refused { ¬ IsLinearization (object 1 1) full_of_its_own }
+    ensures kept_cell_not_linearizable { ¬ Linearizable (queue_with keeps_cell (shape 1 15)) answer (object 1 15) 2 keeping }
     // A near miss that is not lock-free: two passes make each other fail, round after round.
     ensures starving_not_lock_free { ¬ LockFree (queue_with spoils_where_it_lost (shape 1 15)) 2 ((20 + 14 * 1) * 2) }
     ensures starving_not_unhindered { let machine = queue_with spoils_where_it_lost (shape 1 15) in

@@ -1,7 +1,9 @@
 //! The laws of the ring's machine, in the words of Herlihy and Wing (1990) and Herlihy (1991, 1993).
-ghost use Rattle.std.specs.Prelude.{◌≡◌, ℕ, suc, ◌+◌, ◌*◌, ◌<◌, ◌≤◌, List, ◌++◌};
+ghost use Rattle.std.specs.Prelude.{◌≡◌, ℕ, suc, ◌+◌, ◌*◌, ◌<◌, ◌≤◌, List, ◌++◌, ◌≢◌, ◌∷◌, length};
 ghost use mathlib.Core.Option.{some};
 ghost use lib.ListN.{get_elem?};
+ghost use Rattle.bounded_model.specs.declared.history.Event.{Event};
+ghost use Rattle.bounded_model.specs.Histories.{pass_of};
 ghost use Rattle.bounded_model.specs.Gathers.{gather, sent_of, took_of, values_of, Counts};
 ghost use Rattle.machine.specs.Schedule.{Act, Schedule, start, after, next};
 ghost use Rattle.machine.specs.Bound.{IsStretch, own_steps};
@@ -12,8 +14,8 @@ ghost use Rattle.ring_machine.specs.declared.lines.Line.{Line};
 ghost use Rattle.ring_machine.specs.Machine.{State, ring, step};
 ghost use Rattle.ring_machine.specs.Answers.{shape, state};
 ghost use Rattle.ring_machine.specs.Places.{NothingTwice, WinsUnheld};
-ghost use Rattle.step_core.specs.Linearizable.{Entry, IsLinearization, KeepsRealTimeOrder, Linearizable};
-ghost use Rattle.step_core.specs.ring.Object.{object, answer};
+ghost use Rattle.step_core.specs.Linearizable.{Entry, Hand, Rests, most_of, events, stage, call_of, under_way, most_in_hand, IsLinearization, IsLinearizationWithAnyHands, KeepsRealTimeOrder, Linearizable};
+ghost use Rattle.step_core.specs.ring.Object.{object, object_with_any_hands, answer, full_put};
 ghost use Rattle.step_core.specs.ring.Law.{Lawful, AllDone, NoneUnanswered, lines_of};
 ghost use Rattle.step_core.specs.ring.Bound.{MeetsRule};
 ghost use Rattle.step_core.specs.ring.Costs.{cost};
@@ -69,8 +71,10 @@ pub fn ring_answers<T>()
 pub fn ring_linearizable<T>()
     ensures points { (n laps passes : ℕ) (schedule : Schedule (Call T)) → 0 < n →
         Linearizable (ring (shape n laps)) answer (object n laps) passes schedule }
+    ensures with_any_hands { (n laps : ℕ) (course : List (Entry T (Call T) (Answer T))) →
+        IsLinearization (object n laps) course → IsLinearizationWithAnyHands (object_with_any_hands n laps) course }
     ensures keeps_real_time_order { (n laps p : ℕ) (newer older : List (Entry T (Call T) (Answer T))) →
-        IsLinearization (object n laps) (newer ++ older) → KeepsRealTimeOrder p older }
+        IsLinearizationWithAnyHands (object_with_any_hands n laps) (newer ++ older) → KeepsRealTimeOrder p older }
 {}
 
 /// While no other pass's compare-and-swap succeeds, a ring's call has ended after at most 47 of its
@@ -130,4 +134,23 @@ pub fn ring_order<T>()
     ensures takes { (n laps passes : ℕ) (schedule : Schedule (Call T)) → 0 < n →
         Counts (λ m. m.number) 0
         (gather took_of (after (ring (shape n laps)) passes schedule).history) }
+{}
+
+/// Full means full. Suppose that a put on a ring of `n` cells is refused as full while `k` other calls are
+/// under way. At the moment at which the refusal takes effect, at least `n - k` values are stored. Of the
+/// other calls only puts and takes count (`most_in_hand`): each cell that holds no value is in the hand of one of
+/// them, each of them has one at most, and the refused put has none. Hands move only during a call, and a
+/// pass that is in no call has none.
+pub fn ring_full_means_full<T>()
+    ensures hands { (n laps p : ℕ) (newer older : List (Entry T (Call T) (Answer T))) →
+        IsLinearization (object n laps) (newer ++ older) →
+        (state n laps (events older)).hand p ≤ most_of (object n laps) (call_of p older) }
+    ensures moves { (n laps : ℕ) (e : Event T) (newer older : List (Entry T (Call T) (Answer T))) →
+        IsLinearization (object n laps) (newer ++ Hand e ∷ older) → stage (pass_of e) older ≢ Rests }
+    ensures full { (n laps p : ℕ) (v u : T) (newer older : List (Entry T (Call T) (Answer T))) →
+        IsLinearization (object n laps) (newer ++ full_put p v u ∷ older) →
+        n < length (state n laps (events older)).values + most_in_hand (object n laps) older }
+    ensures by_calls { (n laps p : ℕ) (v u : T) (newer older : List (Entry T (Call T) (Answer T))) →
+        IsLinearization (object n laps) (newer ++ full_put p v u ∷ older) →
+        n < length (state n laps (events older)).values + length (under_way older) }
 {}

@@ -1,21 +1,23 @@
 //! The laws of the stack's machine (Treiber 1986), in the words of Herlihy and Wing (1990) and Herlihy
 //! (1991, 1993).
-ghost use Rattle.std.specs.Prelude.{◌≡◌, ℕ, suc, ◌+◌, ◌*◌, ◌<◌, ◌≤◌, List, ◌++◌};
+ghost use Rattle.std.specs.Prelude.{◌≡◌, ℕ, suc, ◌+◌, ◌*◌, ◌<◌, ◌≤◌, List, ◌++◌, ◌≢◌, ◌∷◌, length};
 ghost use mathlib.Core.Option.{some};
 ghost use lib.ListN.{get_elem?};
 ghost use Rattle.tagged_index.specs.declared.word.TheConstants.{NULL};
 ghost use Rattle.bounded_model.specs.Machine.{Shape};
+ghost use Rattle.bounded_model.specs.declared.history.Event.{Event};
+ghost use Rattle.bounded_model.specs.Histories.{pass_of};
 ghost use Rattle.machine.specs.Schedule.{Act, Schedule, start, after, next};
 ghost use Rattle.machine.specs.Bound.{AtLine, IsStretch, own_steps};
 ghost use Rattle.machine.specs.Progress.{Only, steps_made, calls_ended, calls_cost, others_win, AtOnce, LockFree, LockFreeOf};
 ghost use Rattle.stack_machine.specs.declared.lines.Answer.{Answer};
 ghost use Rattle.stack_machine.specs.declared.lines.Call.{Call};
 ghost use Rattle.stack_machine.specs.declared.lines.Line.{Line};
-ghost use Rattle.stack_machine.specs.Answers.{shape};
+ghost use Rattle.stack_machine.specs.Answers.{shape, state};
 ghost use Rattle.stack_machine.specs.Machine.{Pass, State, stack, step};
 ghost use Rattle.stack_machine.specs.Places.{NoNodeTwice, WinsUnheld};
-ghost use Rattle.step_core.specs.Linearizable.{Entry, IsLinearization, KeepsRealTimeOrder, Linearizable};
-ghost use Rattle.step_core.specs.stack.Object.{object, answer};
+ghost use Rattle.step_core.specs.Linearizable.{Entry, Hand, Rests, most_of, events, stage, call_of, most_in_hand, IsLinearization, IsLinearizationWithAnyHands, KeepsRealTimeOrder, Linearizable};
+ghost use Rattle.step_core.specs.stack.Object.{object, object_with_any_hands, answer, full_put};
 ghost use Rattle.step_core.specs.stack.Bound.{IsSingle};
 ghost use Rattle.step_core.specs.stack.Costs.{cost, IsSingleCall};
 ghost use Rattle.step_core.specs.stack.Law.{Lawful, AllDone, NoneUnanswered, MeetsRule, lines_of};
@@ -134,6 +136,23 @@ pub fn stack_lock_free<T>()
 pub fn stack_linearizable<T>()
     ensures points { (n limit passes : ℕ) (schedule : Schedule (Call T)) → 0 < n → n ≤ NULL →
         Linearizable (stack (shape n limit)) answer (object n limit) passes schedule }
+    ensures with_any_hands { (n limit : ℕ) (course : List (Entry T (Call T) (Answer T))) →
+        IsLinearization (object n limit) course → IsLinearizationWithAnyHands (object_with_any_hands n limit) course }
     ensures keeps_real_time_order { (n limit p : ℕ) (newer older : List (Entry T (Call T) (Answer T))) →
-        IsLinearization (object n limit) (newer ++ older) → KeepsRealTimeOrder p older }
+        IsLinearizationWithAnyHands (object_with_any_hands n limit) (newer ++ older) → KeepsRealTimeOrder p older }
+{}
+
+/// Full means full. Suppose that a put on a stack of `n` nodes is refused as full. At the moment at which the
+/// refusal takes effect, each node that holds no value is in the hand of another call that is under way. A put
+/// of several values has at most one for each of them, a take one, and a fold those of all values that it took.
+/// The refused put has none. Hands move only during a call, and a pass that is in no call has none.
+pub fn stack_full_means_full<T>()
+    ensures hands { (n limit p : ℕ) (newer older : List (Entry T (Call T) (Answer T))) →
+        IsLinearization (object n limit) (newer ++ older) →
+        (state n limit (events older)).hand p ≤ most_of (object n limit) (call_of p older) }
+    ensures moves { (n limit : ℕ) (e : Event T) (newer older : List (Entry T (Call T) (Answer T))) →
+        IsLinearization (object n limit) (newer ++ Hand e ∷ older) → stage (pass_of e) older ≢ Rests }
+    ensures full { (n limit p : ℕ) (v : T) (vs us : List T) (newer older : List (Entry T (Call T) (Answer T))) →
+        IsLinearization (object n limit) (newer ++ full_put p v vs us ∷ older) →
+        n + suc (length vs) ≤ length (state n limit (events older)).values + most_in_hand (object n limit) older }
 {}

@@ -10,16 +10,16 @@ ghost use Rattle.stack_machine.specs.Machine.{stack};
 ghost use Rattle.stack_machine.specs.Places.{NoNodeTwice};
 ghost use Rattle.stack_machine.specs.declared.lines.Answer.TheVariants.{Close, Shut};
 ghost use Rattle.step_core.specs.Letters.{x, y, z};
-ghost use Rattle.step_core.specs.Linearizable.{Linearizable};
+ghost use Rattle.step_core.specs.Linearizable.{IsLinearization, LinearizableWithAnyHands};
 ghost use Rattle.step_core.specs.Scripts.{answers, ended};
 ghost use Rattle.step_core.specs.stack.Cast.{Plays, Fails, stack_with, fold_is, free_spent, full, no_take, top_spent};
 ghost use Rattle.step_core.specs.stack.Law.{Lawful, AllDone, NoneUnanswered, lines_of};
 ghost use Rattle.step_core.specs.stack.Rows.{alone, same_node_other_tag, spent_top, ranges, folds, gauges, left_over, closed_under_a_put, range_spent, range_closed, range_full, spent_free, shut_stack, closed_before_spent_top, shut_is_overtaken, close_is_overtaken, folds_of_a_shut_stack, empty_and_shut, closed_before_spent_at_last, closed_before_full, shut_before_spent, put_overtakes_shut, close_overtakes_take, folds_alone};
 ghost use Rattle.step_core.specs.stack.Orders.{limit_before_null, limit_before_closed, limit_before_closed_at_last, full_first, empty_first, limit_first, answers_a_lost_mark, skips_the_walk, skips_the_turn, ignores_marks};
 ghost use Rattle.step_core.specs.stack.Mistakes.{hands_with_node, WinsHeld, node_held, node_held_twice, number_again, cut_off, forgotten, left_there, put_after_close, take_after_shut};
-ghost use Rattle.step_core.specs.stack.Object.{object, answer};
+ghost use Rattle.step_core.specs.stack.Object.{object, object_with_any_hands, answer};
 ghost use Rattle.step_core.specs.stack.WrongAnswers.{put_only_the_first, shut_as_a_close, fold_as_a_take, fold_without_a_turn, value_between};
-ghost use Rattle.step_core.specs.stack.WrongRuns.{ends_where_it_lost, lost_take, is_always_empty, stale_take, plain_object, full_of_hands, spoils_where_it_lost, starving, in_turn};
+ghost use Rattle.step_core.specs.stack.WrongRuns.{ends_where_it_lost, lost_take, is_always_empty, stale_take, plain_object, full_of_hands, spoils_where_it_lost, starving, in_turn, resting_hand, full_of_resting_hands, second_cell, full_of_its_own};
 
 /// Rows played by the stack's machine, by single steps of up to three passes, and machines that are
 /// nearly the stack's, each with the scene that it fails (see `queue_exhibits`).
@@ -86,12 +86,18 @@ pub fn stack_near_misses()
     ensures fold_as_a_take_unlawful { ¬ AllDone (shape 3 15) fold_as_a_take }
     ensures fold_without_a_turn_unlawful { ¬ AllDone (shape 3 15) fold_without_a_turn }
     ensures value_between_unlawful { ¬ AllDone (shape 3 15) value_between }
-    // Near misses that are not linearizable, or leave a call unanswered.
+    // Near misses that are not linearizable, whatever the hands hold, or leave a call unanswered.
     ensures lost_take_unanswered { ¬ NoneUnanswered (after (stack_with ends_where_it_lost (shape 1 15)) 3 lost_take) }
-    ensures lost_take_not_linearizable { ¬ Linearizable (stack_with ends_where_it_lost (shape 1 15)) answer (object 1 15) 3 lost_take }
+    ensures lost_take_not_linearizable { ¬ LinearizableWithAnyHands (stack_with ends_where_it_lost (shape 1 15)) answer (object_with_any_hands 1 15) 3 lost_take }
     ensures stale_take_unlawful { ¬ Lawful ℕ 1 15 (after (stack_with is_always_empty (shape 1 15)) 2 stale_take) }
-    ensures stale_take_not_linearizable { ¬ Linearizable (stack_with is_always_empty (shape 1 15)) answer (object 1 15) 2 stale_take }
-    ensures full_of_hands_not_plain { ¬ Linearizable (stack (shape 1 15)) answer plain_object 3 full_of_hands }
+    ensures stale_take_not_linearizable { ¬ LinearizableWithAnyHands (stack_with is_always_empty (shape 1 15)) answer (object_with_any_hands 1 15) 2 stale_take }
+    ensures full_of_hands_not_plain { ¬ LinearizableWithAnyHands (stack (shape 1 15)) answer plain_object 3 full_of_hands }
+    // Courses that are no linearizations: hands of passes that are in no call, more cells than a call may have, and a
+    // refusal as full for the own cell.
+    ensures resting_hand_refused { ¬ IsLinearization (object 1 1) resting_hand }
+    ensures full_of_resting_hands_refused { ¬ IsLinearization (object 1 1) full_of_resting_hands }
+    ensures second_cell_refused { ¬ IsLinearization (object 2 1) second_cell }
+    ensures full_of_its_own_refused { ¬ IsLinearization (object 1 1) full_of_its_own }
     // A near miss that is not lock-free: two passes make each other fail, round after round.
     ensures starving_not_lock_free { ¬ LockFree (stack_with spoils_where_it_lost (shape 1 15)) 2 ((4 * 1 + 6 + (3 * 1 + 4) * 1) * 2) }
     ensures starving_not_unhindered { let machine = stack_with spoils_where_it_lost (shape 1 15) in

@@ -15,8 +15,8 @@ use Rattle.queue_machine.specs.declared.lines.Call.TheVariants.{Put as CallPut, 
 use Rattle.queue_machine.specs.declared.lines.Line.TheVariants.{Idle}
 use Rattle.queue_machine.specs.Machine.{Pass, queue, ends}
 use Rattle.queue_machine.specs.Answers.{shape, state}
-use Rattle.step_core.specs.Linearizable.{Linearizable, Responds}
-use Rattle.step_core.specs.queue.Object.{Makes, object, answer}
+use Rattle.step_core.specs.Linearizable.{LinearizableWithAnyHands, Responds}
+use Rattle.step_core.specs.queue.Object.{Makes, object_with_any_hands, answer}
 use Rattle.step_core.proofs.Heard.{Right, none_heard, heard_of_none, stale, at_once}
 use Rattle.step_core.specs.queue.Law.{Lawful, NoneUnanswered}
 use Rattle.step_core.specs.queue.Cast.{queue_with}
@@ -30,8 +30,8 @@ has_lost = record { line = Idle None; call = some CallTake; begun = Put 1 (10 �
 pub lost_take-unanswered : ¬ NoneUnanswered (after (queue_with ends_where_it_lost (shape 1 15)) 3 lost_take)
 lost_take-unanswered all = let a = all 0 has_lost CallTake refl refl refl in let no : Idle None ≡ Idle (Some a.0) = a.1 in cc
 
-pub lost_take-not_linearizable : ¬ Linearizable (queue_with ends_where_it_lost (shape 1 15)) answer (object 1 15) 3 lost_take
-lost_take-not_linearizable l = none_heard (object 1 15) 0 l.course l.right (subst (Among (Responds 0 none)) (sym l.same_calls) (inl refl))
+pub lost_take-not_linearizable : ¬ LinearizableWithAnyHands (queue_with ends_where_it_lost (shape 1 15)) answer (object_with_any_hands 1 15) 3 lost_take
+lost_take-not_linearizable l = none_heard (object_with_any_hands 1 15) 0 l.course l.right (subst (Among (Responds 0 none)) (sym l.same_calls) (inl refl))
 
 abbrev no_value : Answer ℕ
 no_value = AnswerTake (Err Empty)
@@ -48,22 +48,22 @@ stale_take-unlawful law =
     let no : ◌≡◌ {A = List ℕ} (10 ∷ []) [] = right.0 in
     cc
 
-pub stale_take-not_linearizable : ¬ Linearizable (queue_with is_always_empty (shape 1 15)) answer (object 1 15) 2 stale_take
-stale_take-not_linearizable l = stale (object 1 15) 10 no_value put_done refl is_empty was_put CallTake (CallPut 10) l.course l.right l.same_calls l.same_history
+pub stale_take-not_linearizable : ¬ LinearizableWithAnyHands (queue_with is_always_empty (shape 1 15)) answer (object_with_any_hands 1 15) 2 stale_take
+stale_take-not_linearizable l = stale (object_with_any_hands 1 15) 10 no_value put_done refl is_empty was_put CallTake (CallPut 10) l.course l.right l.same_calls l.same_history
   where
-    is_empty : (p : ℕ) (call : Call ℕ) (newer older : List (Event ℕ)) → Right (object 1 15) p call no_value newer older → (state 1 15 older).values ≡ []
+    is_empty : (p : ℕ) (call : Call ℕ) (newer older : List (Event ℕ)) → Right (object_with_any_hands 1 15) p call no_value newer older → (state 1 15 older).values ≡ []
     is_empty p (CallPut v) newer older r = absurd (⊎_elim (λ s. s) (λ m. m.1.0) r)
     is_empty p CallTake newer older r = ⊎_elim (λ s. s.0) (λ m. absurd m.1.0) r
     is_empty p call newer older r = absurd (⊎_elim (λ s. s) (λ m. m.1.0) r)
 
-    was_put : (p : ℕ) (call : Call ℕ) (newer older : List (Event ℕ)) → Right (object 1 15) p call put_done newer older → (vs : List ℕ) × Among (Put p vs 0) newer
+    was_put : (p : ℕ) (call : Call ℕ) (newer older : List (Event ℕ)) → Right (object_with_any_hands 1 15) p call put_done newer older → (vs : List ℕ) × Among (Put p vs 0) newer
     was_put p (CallPut v) newer older r = ⊎_elim (λ s. absurd s) (λ m. (v ∷ [], subst (λ (e : Event ℕ). Among e newer) m.1.0 m.1.1)) r
     was_put p call newer older r = absurd (⊎_elim (λ s. s) (λ m. m.1.0) r)
 
 abbrev put_full : Answer ℕ
 put_full = AnswerPut (Err (Full 10))
 
-pub full_of_hands-not_plain : ¬ Linearizable (queue (shape 1 15)) answer plain_object 3 full_of_hands
+pub full_of_hands-not_plain : ¬ LinearizableWithAnyHands (queue (shape 1 15)) answer plain_object 3 full_of_hands
 full_of_hands-not_plain l =
     let x = heard_of_none plain_object 0 put_full l.course l.right (subst (Among (Responds 0 (some put_full))) (sym l.same_calls) (inr (inr (inr (inl refl))))) (ap (gather put_of) l.same_history) in
     ⊎_elim (λ r. absurd (omega (arith, r.1, ap length x.5))) (λ r. no_event x.0 x.1 r.0 r.1.0) x.4

@@ -15,8 +15,8 @@ use Rattle.ring_machine.specs.declared.lines.Call.TheVariants.{Put as CallPut, T
 use Rattle.ring_machine.specs.declared.lines.Line.TheVariants.{Idle}
 use Rattle.ring_machine.specs.Machine.{Pass, ends}
 use Rattle.ring_machine.specs.Answers.{shape, state}
-use Rattle.step_core.specs.Linearizable.{Linearizable, Responds}
-use Rattle.step_core.specs.ring.Object.{object, answer}
+use Rattle.step_core.specs.Linearizable.{LinearizableWithAnyHands, Responds}
+use Rattle.step_core.specs.ring.Object.{object_with_any_hands, answer}
 use Rattle.step_core.proofs.Heard.{Right, none_heard, stale, at_once}
 use Rattle.step_core.specs.ring.Law.{Lawful, NoneUnanswered}
 use Rattle.step_core.specs.ring.Cast.{ring_with}
@@ -31,8 +31,8 @@ has_lost = record { line = Idle 1 None; call = some CallTake; begun = one_value;
 pub lost_take-unanswered : ¬ NoneUnanswered (after (ring_with ends_where_it_lost (shape 1 1)) 3 lost_take)
 lost_take-unanswered all = let a = all 0 has_lost CallTake refl refl refl in let no : Idle 1 None ≡ Idle a.0 (Some a.1) = a.2 in cc
 
-pub lost_take-not_linearizable : ¬ Linearizable (ring_with ends_where_it_lost (shape 1 1)) answer (object 1 1) 3 lost_take
-lost_take-not_linearizable l = none_heard (object 1 1) 0 l.course l.right (subst (Among (Responds 0 none)) (sym l.same_calls) (inl refl))
+pub lost_take-not_linearizable : ¬ LinearizableWithAnyHands (ring_with ends_where_it_lost (shape 1 1)) answer (object_with_any_hands 1 1) 3 lost_take
+lost_take-not_linearizable l = none_heard (object_with_any_hands 1 1) 0 l.course l.right (subst (Among (Responds 0 none)) (sym l.same_calls) (inl refl))
 
 abbrev no_value : Answer ℕ
 no_value = AnswerTake (Err Empty)
@@ -46,15 +46,15 @@ stale_take-unlawful law =
     let no : ◌≡◌ {A = List ℕ} (10 ∷ []) [] = right.0 in
     cc
 
-pub stale_take-not_linearizable : ¬ Linearizable (ring_with is_always_empty (shape 1 1)) answer (object 1 1) 2 stale_take
-stale_take-not_linearizable l = stale (object 1 1) 10 no_value put_done refl is_empty was_put CallTake (CallPut 10) l.course l.right l.same_calls l.same_history
+pub stale_take-not_linearizable : ¬ LinearizableWithAnyHands (ring_with is_always_empty (shape 1 1)) answer (object_with_any_hands 1 1) 2 stale_take
+stale_take-not_linearizable l = stale (object_with_any_hands 1 1) 10 no_value put_done refl is_empty was_put CallTake (CallPut 10) l.course l.right l.same_calls l.same_history
   where
-    is_empty : (p : ℕ) (call : Call ℕ) (newer older : List (Event ℕ)) → Right (object 1 1) p call no_value newer older → (state 1 1 older).values ≡ []
+    is_empty : (p : ℕ) (call : Call ℕ) (newer older : List (Event ℕ)) → Right (object_with_any_hands 1 1) p call no_value newer older → (state 1 1 older).values ≡ []
     is_empty p (CallPut v) newer older r = absurd (⊎_elim (λ s. s) (λ m. m.1.0) r)
     is_empty p CallTake newer older r = ⊎_elim (λ s. s.0) (λ m. absurd m.1.0) r
     is_empty p call newer older r = absurd (⊎_elim (λ s. s) (λ m. m.1.0) r)
 
-    was_put : (p : ℕ) (call : Call ℕ) (newer older : List (Event ℕ)) → Right (object 1 1) p call put_done newer older → (vs : List ℕ) × Among (Put p vs 0) newer
+    was_put : (p : ℕ) (call : Call ℕ) (newer older : List (Event ℕ)) → Right (object_with_any_hands 1 1) p call put_done newer older → (vs : List ℕ) × Among (Put p vs 0) newer
     was_put p (CallPut v) newer older r = ⊎_elim (λ s. absurd s) (λ m. (v ∷ [], subst (λ (e : Event ℕ). Among e newer) m.1.0 m.1.1)) r
     was_put p call newer older r = absurd (⊎_elim (λ s. s) (λ m. m.1.0) r)
 

@@ -12,7 +12,7 @@ use Rattle.queue_machine.specs.declared.lines.Line.{Line}
 use Rattle.queue_machine.specs.declared.lines.Line.TheVariants.{LoadTail, CheckTail, LinkNext, SwingToLinked}
 use Rattle.queue_machine.specs.Machine.{State, queue, starts, step, goes_on, wins, after_link_of, ends}
 use Rattle.queue_machine.specs.Answers.{shape}
-use Rattle.machine.specs.Schedule.{after}
+use Rattle.machine.specs.Schedule.{Schedule, after}
 use Rattle.step_core.specs.Acts.{begins}
 use Rattle.step_core.specs.queue.Cast.{Machines, Moves, queue_with}
 
@@ -42,8 +42,11 @@ keeps_cell s m p (CheckTail (ToLink link) w n) =
     if n.mark then goes_on m (ends (AnswerPut (Err (Closed link.value)))) else step s m p (CheckTail (ToLink link) w n)
 keeps_cell s m p l = step s m p l
 
+abbrev pub keeping : Schedule (Call ℕ)
+keeping = begins 1 CallClose 4 ++ begins 0 (CallPut 10) 12
+
 abbrev pub kept_cell : State ℕ
-kept_cell = after (queue_with keeps_cell (shape 1 15)) 2 (begins 1 CallClose 4 ++ begins 0 (CallPut 10) 12)
+kept_cell = after (queue_with keeps_cell (shape 1 15)) 2 keeping
 
 -- A shut that begins as a close: the queue is closed, and the answer is one of a close
 abbrev pub shuts_by_closing : Machines

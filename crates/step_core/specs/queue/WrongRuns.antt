@@ -1,9 +1,10 @@
 -- What linearizability and lock-freedom refuse: machines that are nearly the queue's, each with a schedule, and an object
 -- without hands.
-use Rattle.std.specs.Prelude.{◌≡◌, ℕ, if◌then◌else◌, List, ◌++◌, length, None, Err}
+use Rattle.std.specs.Prelude.{◌≡◌, ℕ, if◌then◌else◌, List, ◌++◌, length, None, Err, [], ◌∷◌}
 use Rattle.bounded_model.specs.declared.answers.PutRefused.TheVariants.{Full}
 use Rattle.bounded_model.specs.declared.answers.TakeRefused.TheVariants.{Empty}
 use Rattle.bounded_model.specs.declared.history.Event.{Event}
+use Rattle.bounded_model.specs.declared.history.Event.TheVariants.{Hold}
 use Rattle.machine.specs.Schedule.{Schedule, after}
 use Rattle.machine.specs.Words.{same, raised}
 use Rattle.queue_machine.specs.declared.lines.Answer.{Answer}
@@ -14,8 +15,8 @@ use Rattle.queue_machine.specs.declared.lines.Line.TheVariants.{Idle, LoadHead, 
 use Rattle.queue_machine.specs.Machine.{step, goes_on, ends, State}
 use Rattle.queue_machine.specs.Answers.{state, shape}
 use Rattle.step_core.specs.Acts.{begins, steps, rounds}
-use Rattle.step_core.specs.Linearizable.{Object}
-use Rattle.step_core.specs.queue.Object.{IsSaid, object}
+use Rattle.step_core.specs.Linearizable.{Object, Entry, Invokes, Hand}
+use Rattle.step_core.specs.queue.Object.{IsSaidWithAnyHands, object_with_any_hands, full_put}
 use Rattle.step_core.specs.queue.Cast.{Moves, queue_with}
 
 -- A take that loses its exchange ends without an answer
@@ -38,7 +39,7 @@ stale_take = begins 1 (CallPut 10) 14 ++ begins 0 CallTake 1
 
 -- The bounded queue without hands, which is full only if it has as many values as cells
 abbrev pub plain_object : Object ℕ (Call ℕ) (Answer ℕ)
-plain_object = record (object 1 15) { reads = λ k h. IsSaid 1 15 h k.call k.answer × FillsAll k.answer h }
+plain_object = record (object_with_any_hands 1 15) { reads = λ k h. IsSaidWithAnyHands 1 15 h k.call k.answer × FillsAll k.answer h }
   where
     FillsAll : Answer ℕ → List (Event ℕ) → Type 0
     FillsAll (AnswerPut (Err (Full v))) h = length (state 1 15 h).values ≡ 1
@@ -66,3 +67,18 @@ starving = after (queue_with spoils_where_it_lost (shape 1 15)) 2 both_have_read
 
 abbrev pub in_turn : Schedule (Call ℕ)
 in_turn = rounds (Call ℕ) 18
+
+-- Courses that are no linearizations. Pass 1 is in no call and has taken a cell; pass 0 is refused for that, though nothing is stored
+abbrev pub resting_hand : List (Entry ℕ (Call ℕ) (Answer ℕ))
+resting_hand = Hand (Hold 1) ∷ []
+
+abbrev pub full_of_resting_hands : List (Entry ℕ (Call ℕ) (Answer ℕ))
+full_of_resting_hands = full_put 0 10 10 ∷ Invokes 0 (CallPut 10) ∷ Hand (Hold 1) ∷ []
+
+-- pass 1 takes a second cell for one value
+abbrev pub second_cell : List (Entry ℕ (Call ℕ) (Answer ℕ))
+second_cell = Hand (Hold 1) ∷ Hand (Hold 1) ∷ Invokes 1 (CallPut 10) ∷ []
+
+-- pass 0 is refused for its own cell
+abbrev pub full_of_its_own : List (Entry ℕ (Call ℕ) (Answer ℕ))
+full_of_its_own = full_put 0 10 10 ∷ Hand (Hold 0) ∷ Invokes 0 (CallPut 10) ∷ []

@@ -11,8 +11,8 @@ use Rattle.ring_machine.specs.declared.lines.Answer.{Answer}
 use Rattle.ring_machine.specs.declared.lines.Answer.TheVariants.{Put as AnswerPut, Take as AnswerTake, Close as AnswerClose, Shut as AnswerShut, Look as AnswerLook, Len as AnswerLen, Gauge as AnswerGauge}
 use Rattle.ring_machine.specs.declared.lines.Line.{Line}
 use Rattle.ring_machine.specs.declared.lines.Line.TheVariants.{Idle}
-use Rattle.ring_machine.specs.Answers.{shape, IsGauged}
-use Rattle.step_core.specs.Linearizable.{Object}
+use Rattle.ring_machine.specs.Answers.{shape, state, IsGauged}
+use Rattle.step_core.specs.Linearizable.{Object, Entry, Reads}
 
 module _ {T : Type 0} where
   -- an operation that updates the ring makes this event
@@ -23,27 +23,47 @@ module _ {T : Type 0} where
   Makes p CallShut (AnswerShut true) e = e ≡ Shut p
   Makes p call a e = ⊥
 
+  -- how many cells a pass may have in hand during a call
+  abbrev pub most : Call T → ℕ
+  most (CallPut v) = 1
+  most CallTake = 1
+  most call = 0
+
   -- an operation that reads the ring: the answer is right in the state at the end of this history, which does not change. A refused put
   -- hands its value back
-  abbrev pub IsSaid : ℕ → ℕ → List (Event T) → Call T → Answer T → Type 0
-  IsSaid n laps h (CallPut v) (AnswerPut (Err (Full u))) = (u ≡ v) × right.Justifies (shape n laps) h right.PutFull
-  IsSaid n laps h (CallPut v) (AnswerPut (Err (Closed u))) = (u ≡ v) × right.Justifies (shape n laps) h right.PutClosed
-  IsSaid n laps h (CallPut v) (AnswerPut (Err (Spent u word t))) = (u ≡ v) × right.Justifies (shape n laps) h (right.PutSpent word t)
-  IsSaid n laps h CallTake (AnswerTake (Err why)) = right.Justifies (shape n laps) h (right.take_answer why)
-  IsSaid n laps h CallClose (AnswerClose false) = right.Justifies (shape n laps) h right.NotClosed
-  IsSaid n laps h CallShut (AnswerShut false) = right.Justifies (shape n laps) h right.NotShut
-  IsSaid n laps h CallLook (AnswerLook empty) = right.Justifies (shape n laps) h (right.Looked empty)
-  IsSaid n laps h CallLen (AnswerLen k) = right.Justifies (shape n laps) h (right.Counted k)
-  IsSaid n laps h CallGauge (AnswerGauge closed used) = IsGauged n laps closed used h
-  IsSaid n laps h call a = ⊥
+  abbrev pub IsSaidWithAnyHands : ℕ → ℕ → List (Event T) → Call T → Answer T → Type 0
+  IsSaidWithAnyHands n laps h (CallPut v) (AnswerPut (Err (Full u))) = (u ≡ v) × right.Justifies (shape n laps) h right.PutFull
+  IsSaidWithAnyHands n laps h (CallPut v) (AnswerPut (Err (Closed u))) = (u ≡ v) × right.Justifies (shape n laps) h right.PutClosed
+  IsSaidWithAnyHands n laps h (CallPut v) (AnswerPut (Err (Spent u word t))) = (u ≡ v) × right.Justifies (shape n laps) h (right.PutSpent word t)
+  IsSaidWithAnyHands n laps h CallTake (AnswerTake (Err why)) = right.Justifies (shape n laps) h (right.take_answer why)
+  IsSaidWithAnyHands n laps h CallClose (AnswerClose false) = right.Justifies (shape n laps) h right.NotClosed
+  IsSaidWithAnyHands n laps h CallShut (AnswerShut false) = right.Justifies (shape n laps) h right.NotShut
+  IsSaidWithAnyHands n laps h CallLook (AnswerLook empty) = right.Justifies (shape n laps) h (right.Looked empty)
+  IsSaidWithAnyHands n laps h CallLen (AnswerLen k) = right.Justifies (shape n laps) h (right.Counted k)
+  IsSaidWithAnyHands n laps h CallGauge (AnswerGauge closed used) = IsGauged n laps closed used h
+  IsSaidWithAnyHands n laps h call a = ⊥
+
+  -- the same by pass p, whose put has no cell itself if it is refused as full: each cell holds a value or is in another pass's hand
+  abbrev pub IsSaid : ℕ → ℕ → ℕ → List (Event T) → Call T → Answer T → Type 0
+  IsSaid n laps p h (CallPut v) (AnswerPut (Err (Full u))) = (u ≡ v) × right.Justifies (shape n laps) h right.PutFull × ((state n laps h).hand p ≡ 0)
+  IsSaid n laps p h call a = IsSaidWithAnyHands n laps h call a
 
   -- the ring of n slots
   abbrev pub object : ℕ → ℕ → Object T (Call T) (Answer T)
   object n laps = record {
     shape = shape n laps;
+    most = most;
     updates = λ k e. Makes k.by k.call k.answer e;
-    reads = λ k h. IsSaid n laps h k.call k.answer;
+    reads = λ k h. IsSaid n laps k.by h k.call k.answer;
   }
+
+  -- the same for `IsLinearizationWithAnyHands`: a put may be refused as full though it has a cell itself
+  abbrev pub object_with_any_hands : ℕ → ℕ → Object T (Call T) (Answer T)
+  object_with_any_hands n laps = record (object n laps) { reads = λ k h. IsSaidWithAnyHands n laps h k.call k.answer }
+
+  -- the point of a put of v by pass p that is refused as full
+  abbrev pub full_put : ℕ → T → T → Entry T (Call T) (Answer T)
+  full_put p v u = Reads (record { by = p; call = CallPut v; answer = AnswerPut (Err (Full u)) })
 
   -- the answer in the response of a pass at a line
   abbrev pub answer : Line T → Option (Answer T)

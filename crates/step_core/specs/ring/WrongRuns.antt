@@ -1,6 +1,10 @@
 -- What linearizability and lock-freedom refuse: machines that are nearly the ring's, each with a schedule.
-use Rattle.std.specs.Prelude.{ℕ, not, if◌then◌else◌, ◌++◌, Err}
+use Rattle.std.specs.Prelude.{ℕ, not, if◌then◌else◌, ◌++◌, Err, List, [], ◌∷◌}
 use Rattle.bounded_model.specs.declared.answers.TakeRefused.TheVariants.{Empty}
+use Rattle.bounded_model.specs.declared.history.Event.TheVariants.{Hold}
+use Rattle.ring_machine.specs.declared.lines.Answer.{Answer}
+use Rattle.step_core.specs.Linearizable.{Entry, Invokes, Hand}
+use Rattle.step_core.specs.ring.Object.{full_put}
 use Rattle.machine.specs.Schedule.{Schedule, after}
 use Rattle.machine.specs.Words.{same}
 use Rattle.ring_machine.specs.declared.lines.Back.TheVariants.{ToClose}
@@ -51,3 +55,18 @@ starving = after (ring_with spoils_where_it_lost (shape 1 1)) 2 both_have_read
 
 abbrev pub in_turn : ℕ → Schedule (Call ℕ)
 in_turn k = rounds (Call ℕ) k
+
+-- Courses that are no linearizations. Pass 1 is in no call and has taken a cell; pass 0 is refused for that, though nothing is stored
+abbrev pub resting_hand : List (Entry ℕ (Call ℕ) (Answer ℕ))
+resting_hand = Hand (Hold 1) ∷ []
+
+abbrev pub full_of_resting_hands : List (Entry ℕ (Call ℕ) (Answer ℕ))
+full_of_resting_hands = full_put 0 10 10 ∷ Invokes 0 (CallPut 10) ∷ Hand (Hold 1) ∷ []
+
+-- pass 1 takes a second cell for one value
+abbrev pub second_cell : List (Entry ℕ (Call ℕ) (Answer ℕ))
+second_cell = Hand (Hold 1) ∷ Hand (Hold 1) ∷ Invokes 1 (CallPut 10) ∷ []
+
+-- pass 0 is refused for its own cell
+abbrev pub full_of_its_own : List (Entry ℕ (Call ℕ) (Answer ℕ))
+full_of_its_own = full_put 0 10 10 ∷ Hand (Hold 0) ∷ Invokes 0 (CallPut 10) ∷ []

@@ -8,7 +8,7 @@ pub returns-clause-run : goal.returns-clause-run
 returns-clause-run g c =
     let queue = c.args.queue in
     let limits = queue.table.shared.key in
-    let run = c.end.ensures.run in
+    let run = c.finish.ensures.run in
     record {
       run = run;
       linearizable = linearizable (room_of queue) (limit_of queue) (let e = limits.some_capacity in omega arith) (let e = limits.capacity_in_range in omega arith) (let e = limits.some_tag_limit in omega arith) run.acts run.allowed;
@@ -19,4 +19,4 @@ pub returns-clause-work : goal.returns-clause-work
 returns-clause-work g c = λ nobody.
     let queue = c.args.queue in
     let limits = queue.table.shared.key in
-    (total_work (room_of queue) (limit_of queue) (let e = limits.some_capacity in omega arith) (let e = limits.capacity_in_range in omega arith) (let e = limits.some_tag_limit in omega arith) _ _ c.end.ensures.run c.requires.on.sound nobody).fees
+    (total_work (room_of queue) (limit_of queue) (let e = limits.some_capacity in omega arith) (let e = limits.capacity_in_range in omega arith) (let e = limits.some_tag_limit in omega arith) _ _ c.finish.ensures.run c.requires.on.sound nobody).fees

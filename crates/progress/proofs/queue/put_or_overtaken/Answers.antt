@@ -1,10 +1,8 @@
-use Rattle.std.proofs.Common.{◌+◌, ap, sym, subst}
+use Rattle.std.proofs.Common.{◌+◌, ap}
 use Rattle.ms_queue.specs.Putting.{put_account}
-use Rattle.ms_queue.specs.Queue.{machine_of, pass_in}
+use Rattle.ms_queue.specs.Queue.{machine_of}
 use Rattle.ms_queue.specs.KeepsAnswers.{put_promises}
-use Rattle.ms_queue.specs.Trying.{PutTried}
 use Rattle.runs.proofs.Made.{going, some_made}
-use Rattle.progress.specs.Queues.{EndsOrOvertaken}
 use Rattle.progress.proofs.QueueCalls.{ends_or_overtaken, put_tried}
 use Rattle.progress.proofs.queue.put_or_overtaken.Goals as goal
 
@@ -14,7 +12,7 @@ returns-clause-tried g c =
     let begun = c.begin_put.ensures in
     let op = c.begin_put.result in
     let some = some_made (machine_of q) (going (machine_of q) (put_account q.table.shared.key) q.table.shared.table_id op begun.makes.under_way) in
-    subst (PutTried q c.args.value (pass_in c.args.by)) (sym c.joined.ensures) (put_tried q c.args.value _ (some.0 + 21) op begun.makes (ap (λ u. u.begun) begun.begun) c.step_for.result (c.step_for.ensures some.0 (record { under_way = begun.makes.under_way; made = some.1 })))
+    put_tried q c.args.value _ (some.0 + 21) op begun.makes (ap (λ u. u.begun) begun.begun) c.step_for.result (c.step_for.ensures some.0 (record { under_way = begun.makes.under_way; made = some.1 }))
 
 pub returns-clause-overtaken : goal.returns-clause-overtaken
 returns-clause-overtaken g c =
@@ -22,4 +20,4 @@ returns-clause-overtaken g c =
     let begun = c.begin_put.ensures in
     let op = c.begin_put.result in
     let some = some_made (machine_of q) (going (machine_of q) (put_account q.table.shared.key) q.table.shared.table_id op begun.makes.under_way) in
-    subst (EndsOrOvertaken q) (sym c.joined.ensures) (ends_or_overtaken q (put_account q.table.shared.key) (put_promises q.table.shared.key) some.0 op c.step_for.result (c.step_for.ensures some.0 (record { under_way = begun.makes.under_way; made = some.1 })))
+    ends_or_overtaken q (put_account q.table.shared.key) (put_promises q.table.shared.key) some.0 op c.step_for.result (c.step_for.ensures some.0 (record { under_way = begun.makes.under_way; made = some.1 }))

@@ -8,7 +8,7 @@ pub returns-clause-run : goal.returns-clause-run
 returns-clause-run g c =
     let ring = c.args.ring in
     let limits = ring.table.shared.key in
-    let run = c.end.ensures.run in
+    let run = c.finish.ensures.run in
     record {
       run = run;
       linearizable = linearizable (room_of ring) (laps_of ring) (passes_of ring) run.acts (let e = limits.some_capacity in omega arith) run.allowed run.fresh;
@@ -19,4 +19,4 @@ pub returns-clause-work : goal.returns-clause-work
 returns-clause-work g c = λ nobody.
     let ring = c.args.ring in
     let limits = ring.table.shared.key in
-    (total_work (room_of ring) (laps_of ring) (passes_of ring) (let e = limits.some_capacity in omega arith) _ _ c.end.ensures.run c.requires.on.sound nobody).fees
+    (total_work (room_of ring) (laps_of ring) (passes_of ring) (let e = limits.some_capacity in omega arith) _ _ c.finish.ensures.run c.requires.on.sound nobody).fees

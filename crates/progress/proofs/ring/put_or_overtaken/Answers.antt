@@ -1,5 +1,6 @@
 use Rattle.std.proofs.Common.{◌+◌, ap}
 use Rattle.ring_queue.specs.Putting.{put_account}
+use Rattle.ring_queue.specs.KeepsAnswers.{put_promises}
 use Rattle.ring_queue.specs.Ring.{machine_of}
 use Rattle.runs.proofs.Made.{going, some_made}
 use Rattle.progress.proofs.RingCalls.{ends_or_overtaken, put_tried}
@@ -19,4 +20,4 @@ returns-clause-overtaken g c =
     let begun = c.begin_put.ensures in
     let op = c.begin_put.result in
     let some = some_made (machine_of ring) (going (machine_of ring) (put_account ring.table.shared.key) ring.table.shared.table_id op begun.makes.under_way) in
-    ends_or_overtaken ring (put_account ring.table.shared.key) some.0 op c.step_for.result (c.step_for.ensures some.0 (record { under_way = begun.makes.under_way; made = some.1 }))
+    ends_or_overtaken ring (put_account ring.table.shared.key) (put_promises ring.table.shared.key) some.0 op c.step_for.result (c.step_for.ensures some.0 (record { under_way = begun.makes.under_way; made = some.1 }))

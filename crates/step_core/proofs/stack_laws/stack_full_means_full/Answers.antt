@@ -1,0 +1,14 @@
+use Rattle.std.proofs.Common.{◌∷◌}
+use Rattle.step_core.specs.Linearizable.{Hand}
+use Rattle.step_core.specs.stack.Object.{object}
+use Rattle.step_core.proofs.InTime.{run_before}
+use Rattle.step_core.proofs.Full.{hands, hand_moves}
+use Rattle.step_core.proofs.stack.Full.{is_full}
+use Rattle.step_core.proofs.stack_laws.stack_full_means_full.Goals as goal
+
+pub returns : goal.returns
+returns g c = record {
+  hands = λ n limit p newer older run. hands (object n limit) older (run_before (object n limit) newer older run) p;
+  moves = λ n limit e newer older run rests. hand_moves (object n limit) e older (run_before (object n limit) newer (Hand e ∷ older) run) rests;
+  full = is_full;
+}
