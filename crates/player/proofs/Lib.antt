@@ -1,4 +1,5 @@
 pub mod Crossing
+pub mod Folding
 pub mod Going
 pub mod Lines
 pub mod Showing

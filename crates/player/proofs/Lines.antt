@@ -14,12 +14,12 @@ use Rattle.script.specs.declared.line.Act.TheVariants.{Call, Begin, Step, Range,
 use Rattle.player.specs.declared.place.Begun.{Begun}
 use Rattle.player.specs.declared.place.Place.{Place}
 use Rattle.player.specs.declared.place.Place.TheVariants as place
-use Rattle.player.specs.Plays.{Named, Nobody, Resting, Acting, World, steps_since}
+use Rattle.player.specs.Plays.{Meaning, Nobody, Resting, Acting, World, steps_since}
 use Rattle.player.specs.Shows.{Reading, Shows, StepOf}
 use Rattle.player.specs.Traces.{ActingLines, ActsTraced, AreKept, DoesTraced, IsCounted, IsFound, IsKept, StepLine, StepLines, number_of}
 
 module _ {R P O : Type 0} (r : Reading R P O) where
-  pub is_counted : (begun : Begun O) (n : Named) → Shows r (place.Acting begun) n → IsCounted r begun
+  pub is_counted : (begun : Begun O) (n : Meaning) → Shows r (place.Acting begun) n → IsCounted r begun
   is_counted begun Nobody shows = absurd shows
   is_counted begun (Resting v) shows = absurd shows
   is_counted begun (Acting call u) shows = rw (sym shows.1) (shows.2, shows.3)

@@ -16,7 +16,7 @@ use Rattle.script.specs.declared.line.Act.TheVariants.{Call, Begin, Step, Range,
 use Rattle.player.specs.declared.place.Begun.{Begun}
 use Rattle.player.specs.declared.place.Place.{Place}
 use Rattle.player.specs.declared.place.Place.TheVariants as place
-use Rattle.player.specs.Plays.{Named, Nobody, Resting, Acting, ActingTold, Acts, Does, World, Finds, FindsOther, JoinsAll, JoinsOne, MakesSteps, MeetTold, steps_since}
+use Rattle.player.specs.Plays.{Meaning, Nobody, Resting, Acting, ActingTold, Acts, Does, World, Finds, FindsOther, JoinsAll, JoinsOne, MakesSteps, MeetTold, steps_since}
 use Rattle.player.specs.Shows.{Holds, Reading, Shows, ShowsAll}
 
 -- an operation that was begun has made no step
@@ -49,7 +49,7 @@ other_kept xs i j none apart =
     ap (λ a. slice_set (slice_set xs i none) j a) (sym (get_or-set_other xs i j none none (λ e. apart (sym e))))
     ∙ set-get_or (slice_set xs i none) j none
 
-pub other_named : (names : List Named) (i j : ℕ) (a : Named) → i ≢ j → slice_index_or (slice_set names i a) j Nobody ≡ slice_index_or names j Nobody
+pub other_named : (names : List Meaning) (i j : ℕ) (a : Meaning) → i ≢ j → slice_index_or (slice_set names i a) j Nobody ≡ slice_index_or names j Nobody
 other_named names i j a apart = get_or-set_other names i j a Nobody (λ e. apart (sym e))
 
 -- a call under way is busy for anything but steps and a drop
@@ -67,14 +67,14 @@ pub have_met : (v u w : PassView (List ℕ)) (has_met : Bool) → MeetGives v u 
 have_met v u w true gives = gives
 have_met v u w false gives = gives
 
-pub finds_new : (c : Shape) (r s : RootView (List ℕ)) (n : Named) (v : PassView (List ℕ)) → n ≡ Nobody → Splits c r s v → Finds c r n s (Resting v)
-finds_new c r s n v none splits = subst (λ (m : Named). Finds c r m s (Resting v)) (sym none) splits
+pub finds_new : (c : Shape) (r s : RootView (List ℕ)) (n : Meaning) (v : PassView (List ℕ)) → n ≡ Nobody → Splits c r s v → Finds c r n s (Resting v)
+finds_new c r s n v none splits = subst (λ (m : Meaning). Finds c r m s (Resting v)) (sym none) splits
 
-pub finds_none : (c : Shape) (r s : RootView (List ℕ)) (n : Named) → n ≡ Nobody → IsFullOfPasses c r → s ≡ r → Finds c r n s Nobody
-finds_none c r s n none full same = subst (λ (m : Named). Finds c r m s Nobody) (sym none) (full, same)
+pub finds_none : (c : Shape) (r s : RootView (List ℕ)) (n : Meaning) → n ≡ Nobody → IsFullOfPasses c r → s ≡ r → Finds c r n s Nobody
+finds_none c r s n none full same = subst (λ (m : Meaning). Finds c r m s Nobody) (sym none) (full, same)
 
 -- the other letter was looked for, since the first names somebody
-pub finds_other : (c : Shape) (first : Named) (r s : RootView (List ℕ)) (other found : Named) → (first ≡ Nobody → ⊥) → Finds c r other s found → FindsOther c first r other s found
+pub finds_other : (c : Shape) (first : Meaning) (r s : RootView (List ℕ)) (other found : Meaning) → (first ≡ Nobody → ⊥) → Finds c r other s found → FindsOther c first r other s found
 finds_other c Nobody r s other found some finds = absurd (some refl)
 finds_other c (Resting v) r s other found some finds = finds
 finds_other c (Acting call u) r s other found some finds = finds
@@ -110,38 +110,38 @@ pub since_more : (told made : ℕ) (b n w : PassView (List ℕ)) (said : ℕ) �
 since_more told made b n w said e few more is = omega (arith, e, few, more, is)
 
 module _ {R P O : Type 0} (r : Reading R P O) where
-  pub is_nobody : (n : Named) → Shows r place.Nobody n → n ≡ Nobody
+  pub is_nobody : (n : Meaning) → Shows r place.Nobody n → n ≡ Nobody
   is_nobody Nobody shows = refl
   is_nobody (Resting v) shows = absurd shows
   is_nobody (Acting call u) shows = absurd shows
 
-  pub is_resting : (pass : P) (n : Named) → Shows r (place.Resting pass) n → n ≡ Resting (r.pass pass)
+  pub is_resting : (pass : P) (n : Meaning) → Shows r (place.Resting pass) n → n ≡ Resting (r.pass pass)
   is_resting pass Nobody shows = absurd shows
   is_resting pass (Resting v) shows = ap Resting shows.1
   is_resting pass (Acting call u) shows = absurd shows
 
-  pub is_acting : (begun : Begun O) (n : Named) → Shows r (place.Acting begun) n → (call : Command (List ℕ)) × (u : Underway (List ℕ)) × (n ≡ Acting call u)
+  pub is_acting : (begun : Begun O) (n : Meaning) → Shows r (place.Acting begun) n → (call : Command (List ℕ)) × (u : Underway (List ℕ)) × (n ≡ Acting call u)
   is_acting begun Nobody shows = absurd shows
   is_acting begun (Resting v) shows = absurd shows
   is_acting begun (Acting call u) shows = (call, u, refl)
 
-  pub resting_is : (pass : P) (n : Named) → Shows r (place.Resting pass) n → r.is_pass pass
+  pub resting_is : (pass : P) (n : Meaning) → Shows r (place.Resting pass) n → r.is_pass pass
   resting_is pass Nobody shows = absurd shows
   resting_is pass (Resting v) shows = shows.0
   resting_is pass (Acting call u) shows = absurd shows
 
-  pub acting_is : (begun : Begun O) (n : Named) → Shows r (place.Acting begun) n → (call : Command (List ℕ)) × r.is_making call begun.operation
+  pub acting_is : (begun : Begun O) (n : Meaning) → Shows r (place.Acting begun) n → (call : Command (List ℕ)) × r.is_making call begun.operation
   acting_is begun Nobody shows = absurd shows
   acting_is begun (Resting v) shows = absurd shows
   acting_is begun (Acting call u) shows = (call, shows.0)
 
-  pub holds : (p : Place P O) (n : Named) → Shows r p n → Holds r p
+  pub holds : (p : Place P O) (n : Meaning) → Shows r p n → Holds r p
   holds place.Nobody n shows = tt
   holds (place.Resting pass) n shows = resting_is pass n shows
   holds (place.Acting begun) n shows = acting_is begun n shows
 
   -- a place that is not empty names somebody
-  pub is_somebody : (p : Place P O) (n : Named) → Shows r p n → (p ≡ place.Nobody → ⊥) → n ≡ Nobody → ⊥
+  pub is_somebody : (p : Place P O) (n : Meaning) → Shows r p n → (p ≡ place.Nobody → ⊥) → n ≡ Nobody → ⊥
   is_somebody place.Nobody n shows some none = some refl
   is_somebody (place.Resting pass) Nobody shows some none = shows
   is_somebody (place.Resting pass) (Resting v) shows some none = absurd cc
@@ -150,22 +150,22 @@ module _ {R P O : Type 0} (r : Reading R P O) where
   is_somebody (place.Acting begun) (Resting v) shows some none = shows
   is_somebody (place.Acting begun) (Acting call u) shows some none = absurd cc
 
-  pub finds_same : (p : Place P O) (n : Named) (root : RootView (List ℕ)) → Shows r p n → (p ≡ place.Nobody → ⊥) → Finds r.shape root n root n
+  pub finds_same : (p : Place P O) (n : Meaning) (root : RootView (List ℕ)) → Shows r p n → (p ≡ place.Nobody → ⊥) → Finds r.shape root n root n
   finds_same p Nobody root shows some = absurd (is_somebody p Nobody shows some refl)
   finds_same p (Resting v) root shows some = (refl, refl)
   finds_same p (Acting call u) root shows some = (refl, refl)
 
-  pub shows_at : (places : List (Place P O)) (names : List Named) (i : ℕ) (place : Place P O) → ShowsAll r places names → i < length places → slice_index_or places i place ≡ place → Shows r place (slice_index_or names i Nobody)
+  pub shows_at : (places : List (Place P O)) (names : List Meaning) (i : ℕ) (place : Place P O) → ShowsAll r places names → i < length places → slice_index_or places i place ≡ place → Shows r place (slice_index_or names i Nobody)
   shows_at [] names i place all within was = absurd (omega (arith, within))
   shows_at (p ∷ places) [] i place all within was = absurd all
   shows_at (p ∷ places) (n ∷ names) zero place all within was = subst (λ (q : Place P O). Shows r q n) was all.0
   shows_at (p ∷ places) (n ∷ names) (suc i) place all within was = shows_at places names i place all.1 (omega (arith, within)) was
 
-  pub shows_first : (p : Place P O) (places : List (Place P O)) (names : List Named) → ShowsAll r (p ∷ places) names → (name : Named) × Shows r p name
+  pub shows_first : (p : Place P O) (places : List (Place P O)) (names : List Meaning) → ShowsAll r (p ∷ places) names → (name : Meaning) × Shows r p name
   shows_first p places [] all = absurd all
   shows_first p places (n ∷ names) all = (n, all.0)
 
-  pub shows_set : (places : List (Place P O)) (names : List Named) (i : ℕ) (place : Place P O) (name : Named) → ShowsAll r places names → Shows r place name → ShowsAll r (slice_set places i place) (slice_set names i name)
+  pub shows_set : (places : List (Place P O)) (names : List Meaning) (i : ℕ) (place : Place P O) (name : Meaning) → ShowsAll r places names → Shows r place name → ShowsAll r (slice_set places i place) (slice_set names i name)
   shows_set [] [] i place name all one = tt
   shows_set [] (n ∷ names) i place name all one = absurd all
   shows_set (p ∷ places) [] i place name all one = absurd all
@@ -178,11 +178,11 @@ module _ {R P O : Type 0} (r : Reading R P O) where
   shows_none (suc k) = (tt, shows_none k)
 
   -- one place more was joined
-  pub joins_more : (names rest : List Named) (p : Place P O) (places : List (Place P O)) (a b c : RootView (List ℕ)) → ShowsAll r (p ∷ places) rest → ((n : Named) → Shows r p n → JoinsOne a n b) → ((s : RootView (List ℕ)) → JoinsAll a rest s → JoinsAll c names s) → (left : List Named) × ShowsAll r places left × ((s : RootView (List ℕ)) → JoinsAll b left s → JoinsAll c names s)
+  pub joins_more : (names rest : List Meaning) (p : Place P O) (places : List (Place P O)) (a b c : RootView (List ℕ)) → ShowsAll r (p ∷ places) rest → ((n : Meaning) → Shows r p n → JoinsOne a n b) → ((s : RootView (List ℕ)) → JoinsAll a rest s → JoinsAll c names s) → (left : List Meaning) × ShowsAll r places left × ((s : RootView (List ℕ)) → JoinsAll b left s → JoinsAll c names s)
   joins_more names [] p places a b c shows one all = absurd shows
   joins_more names (n ∷ rest) p places a b c shows one all = (rest, shows.1, λ s joins. all s (b, one n shows.0, joins))
 
-  pub joins_end : (rest : List Named) (places : List (Place P O)) (a : RootView (List ℕ)) → ShowsAll r places rest → places ≡ [] → JoinsAll a rest a
+  pub joins_end : (rest : List Meaning) (places : List (Place P O)) (a : RootView (List ℕ)) → ShowsAll r places rest → places ≡ [] → JoinsAll a rest a
   joins_end [] places a shows none = refl
   joins_end (n ∷ rest) [] a shows none = absurd shows
   joins_end (n ∷ rest) (p ∷ places) a shows none = absurd cc

@@ -1,3 +1,4 @@
+pub mod Folds
 pub mod Plays
 pub mod Shows
 pub mod Traces

@@ -28,16 +28,16 @@ use Rattle.script.specs.declared.line.Line.{Line}
 use Rattle.script.specs.declared.line.PassName.{PassName}
 use Rattle.script.specs.declared.line.Line.TheVariants.{By, Finish}
 
--- what a letter names: nobody, a pass between its calls, or a call under way
-pub data Named : Type 0 where
-  Nobody : Named
-  Resting : PassView (List ℕ) → Named
-  Acting : Command (List ℕ) → Underway (List ℕ) → Named
+-- what a letter means: nobody, a pass between its calls, or a call under way
+pub data Meaning : Type 0 where
+  Nobody : Meaning
+  Resting : PassView (List ℕ) → Meaning
+  Acting : Command (List ℕ) → Underway (List ℕ) → Meaning
 
 -- the container's root, and what the letters from a to z name
 pub record World : Type 0 where
   pub root : RootView (List ℕ)
-  pub names : List Named
+  pub names : List Meaning
 
 abbrev pub start : RootView (List ℕ) → World
 start r = record { root = r; names = replicate 26 Nobody }
@@ -91,7 +91,7 @@ pub record MakesUpTo (count : ℕ) (v w : PassView (List ℕ)) : Type 0 where
 
 -- steps of a call under way: all that the line names if it is still under way; if it ends, the call's law from its
 -- begin
-abbrev pub StepsTold : Shape → Command (List ℕ) → Underway (List ℕ) → ℕ → Answer → Named → Type 0
+abbrev pub StepsTold : Shape → Command (List ℕ) → Underway (List ℕ) → ℕ → Answer → Meaning → Type 0
 StepsTold c call u count (answer.Again told) (Acting same w) = (same ≡ call) × (w.begun ≡ u.begun) × MakesSteps count u.now w.now × (told ≡ steps_since w.begun w.now)
 StepsTold c call u count (answer.Ended said told) (Resting w) = MakesUpTo count u.now w × CallGives c u.begun call w said × (told ≡ steps_since u.begun w)
 StepsTold c call u count said after = ⊥
@@ -112,7 +112,7 @@ pub record IsFit (order : Order) (letter : ℕ) (act : Act) : Type 0 where
   pub fits : IsFor order act
 
 -- a line of a pass between its calls
-abbrev pub RestingTold : Shape → PassView (List ℕ) → Act → Answer → Named → Type 0
+abbrev pub RestingTold : Shape → PassView (List ℕ) → Act → Answer → Meaning → Type 0
 RestingTold c v (Call call) (answer.Call said) (Resting w) = CallGives c v call w said
 RestingTold c v (Begin call) answer.Begun (Acting begun u) = (begun ≡ call) × (u ≡ no_step v)
 RestingTold c v (Step count) answer.NothingBegun (Resting w) = w ≡ v
@@ -123,13 +123,13 @@ RestingTold c v Drop answer.NothingBegun (Resting w) = w ≡ v
 RestingTold c v act said after = ⊥
 
 -- a line of a pass in the middle of a call
-abbrev pub ActingTold : Shape → Command (List ℕ) → Underway (List ℕ) → Act → Answer → Named → Type 0
+abbrev pub ActingTold : Shape → Command (List ℕ) → Underway (List ℕ) → Act → Answer → Meaning → Type 0
 ActingTold c call u (Step count) said after = StepsTold c call u count said after
 ActingTold c call u Drop said after = (said ≡ answer.Dropped) × (after ≡ Nobody)
 ActingTold c call u act said after = (said ≡ answer.Busy) × (after ≡ Acting call u)
 
 -- a line of what a letter names, which is nobody only if no pass could be had
-abbrev pub Told : Shape → Named → Act → Answer → Named → Type 0
+abbrev pub Told : Shape → Meaning → Act → Answer → Meaning → Type 0
 Told c Nobody act said after = (said ≡ answer.NoPass) × (after ≡ Nobody)
 Told c (Resting v) act said after = RestingTold c v act said after
 Told c (Acting call u) act said after = ActingTold c call u act said after
@@ -137,29 +137,29 @@ Told c (Acting call u) act said after = ActingTold c call u act said after
 -- ---- one line
 
 -- a letter that names nobody gets a pass, split off the root, if one can be had
-abbrev pub Finds : Shape → RootView (List ℕ) → Named → RootView (List ℕ) → Named → Type 0
+abbrev pub Finds : Shape → RootView (List ℕ) → Meaning → RootView (List ℕ) → Meaning → Type 0
 Finds c r Nobody s Nobody = IsFullOfPasses c r × (s ≡ r)
 Finds c r Nobody s (Resting v) = Splits c r s v
 Finds c r Nobody s (Acting call u) = ⊥
 Finds c r (Resting v) s found = (found ≡ Resting v) × (s ≡ r)
 Finds c r (Acting call u) s found = (found ≡ Acting call u) × (s ≡ r)
 
-abbrev pub named : World → ℕ → Named
+abbrev pub named : World → ℕ → Meaning
 named world letter = slice_index_or world.names (letter - 97) Nobody
 
-abbrev pub renamed : List Named → ℕ → Named → List Named
+abbrev pub renamed : List Meaning → ℕ → Meaning → List Meaning
 renamed names letter after = slice_set names (letter - 97) after
 
 -- a line of one pass
 pub record Does (c : Shape) (old : World) (letter : ℕ) (act : Act) (said : Answer) (new : World) : Type 0 where
-  pub found : Named
-  pub after : Named
+  pub found : Meaning
+  pub after : Meaning
   pub finds : Finds c old.root (named old letter) new.root found
   pub told : Told c found act said after
   pub names : new.names ≡ renamed old.names letter after
 
 -- two passes meet, if both are there and between their calls
-abbrev pub MeetTold : Named → Named → Answer → Named → Type 0
+abbrev pub MeetTold : Meaning → Meaning → Answer → Meaning → Type 0
 MeetTold Nobody other said after = (said ≡ answer.NoPass) × (after ≡ Nobody)
 MeetTold first Nobody said after = (said ≡ answer.NoPass) × (after ≡ first)
 MeetTold (Resting v) (Resting u) answer.Met (Resting w) = MeetGives v u w true
@@ -168,16 +168,16 @@ MeetTold (Resting v) (Resting u) said after = ⊥
 MeetTold first other said after = (said ≡ answer.Busy) × (after ≡ first)
 
 -- the other letter is looked for only if the first has a pass
-abbrev pub FindsOther : Shape → Named → RootView (List ℕ) → Named → RootView (List ℕ) → Named → Type 0
+abbrev pub FindsOther : Shape → Meaning → RootView (List ℕ) → Meaning → RootView (List ℕ) → Meaning → Type 0
 FindsOther c Nobody r other s found = (found ≡ other) × (s ≡ r)
 FindsOther c (Resting v) r other s found = Finds c r other s found
 FindsOther c (Acting call u) r other s found = Finds c r other s found
 
 pub record DoesMeet (c : Shape) (old : World) (letter other : ℕ) (said : Answer) (new : World) : Type 0 where
   pub between : RootView (List ℕ)
-  pub first : Named
-  pub second : Named
-  pub after : Named
+  pub first : Meaning
+  pub second : Meaning
+  pub after : Meaning
   pub finds : Finds c old.root (named old letter) between first
   pub finds_other : FindsOther c first between (named old other) new.root second
   pub told : MeetTold first second said after
@@ -190,13 +190,13 @@ Acts c old letter act said new = Does c old letter act said new
 -- ---- the end
 
 -- a pass between its calls is joined
-abbrev pub JoinsOne : RootView (List ℕ) → Named → RootView (List ℕ) → Type 0
+abbrev pub JoinsOne : RootView (List ℕ) → Meaning → RootView (List ℕ) → Type 0
 JoinsOne r Nobody s = s ≡ r
 JoinsOne r (Resting v) s = Joins r v s
 JoinsOne r (Acting call u) s = s ≡ r
 
 -- in the order of the letters
-abbrev pub JoinsAll : RootView (List ℕ) → List Named → RootView (List ℕ) → Type 0
+abbrev pub JoinsAll : RootView (List ℕ) → List Meaning → RootView (List ℕ) → Type 0
 JoinsAll r [] s = s ≡ r
 JoinsAll r (name ∷ names) s = (joined : RootView (List ℕ)) × JoinsOne r name joined × JoinsAll joined names s
 

@@ -4,7 +4,7 @@ ghost use Rattle.std.specs.Prelude.{◌≡◌, ℕ, IfOk, List, [], ◌∷◌};
 ghost use Rattle.bounded_model.specs.declared.commands.Command.{Command};
 ghost use Rattle.bounded_model.specs.Calls.{CallGives};
 ghost use Rattle.bounded_model.specs.Stepping.{Underway};
-ghost use Rattle.player.specs.Plays.{Acting, ActingTold, IsFor, Named, RestingTold, StepsTold, Told};
+ghost use Rattle.player.specs.Plays.{Acting, ActingTold, IsFor, Meaning, RestingTold, StepsTold, Told};
 ghost use Rattle.player.specs.Shows.{Holds, Shows, StepOf, reading_of};
 ghost use Rattle.player.specs.declared.place.Place.TheVariants.{Acting as AtWork};
 ghost use Rattle.player.specs.Traces.{ActingLines, CallLines, IsCounted, PlaceLines, RestingLines, StepLine, Traces};
@@ -12,81 +12,82 @@ ghost use Rattle.script.specs.declared.line.Act.TheVariants.{Meet, Step};
 ghost use Rattle.script.specs.declared.line.PassName.{PassName};
 
 use crate::place::{Begun, Place};
-use crate::scripted::Scripted;
+use crate::ranges::Ranges;
 use crate::trace::{MadeStep, Trace};
-use bounded_model::{Command, Container, Reply, Stepped};
+use bounded_model::{Command, Reply, Stepped};
 use script::{Act, Answer, Value};
 use std::alloc::{AllocError, Global};
 use std::sync::Wait;
+use step_names::Named;
 
 /// Does what a line other than a meet says, with what its letter names. Returns what it names then.
-pub fn act_at<'a, G: Scripted<'a, C>, C: Container<Value<'a>>, R: Wait>(
+pub fn act_at<'a, G: Ranges<'a, C>, C: Named<Value<'a>>, R: Wait>(
     container: &C,
     rt: &R,
     alloc: Global,
-    place: Place<C::Pass, G::Op>,
+    place: Place<C::Pass, C::Op>,
     act: Act<'a>,
     trace: &mut Trace,
-) -> Result<(Place<C::Pass, G::Op>, Answer<'a>), AllocError>
-    requires place { (found : Named) × Shows (reading_of C.Container G.is_making G.making container.now)
+) -> Result<(Place<C::Pass, C::Op>, Answer<'a>), AllocError>
+    requires place { (found : Meaning) × Shows (reading_of C.Container C.Stepwise.own container.now)
         place found }
     requires alone { (other : PassName) → ¬ (act ≡ Meet other) }
     requires fits { IsFor (C.shape container.now).order act }
-    ensures told { (found : Named) → Shows (reading_of C.Container G.is_making G.making container.now)
-        place found → IfOk result (λ done. (after : Named)
-        × Shows (reading_of C.Container G.is_making G.making container.now) done.0 after
+    ensures told { (found : Meaning) → Shows (reading_of C.Container C.Stepwise.own container.now)
+        place found → IfOk result (λ done. (after : Meaning)
+        × Shows (reading_of C.Container C.Stepwise.own container.now) done.0 after
         × Told (C.shape container.now) found act.entry done.1 after) }
     ensures traced { IfOk result (λ done. Traces trace.old trace.new
-        (λ lines. PlaceLines (reading_of C.Container G.is_making G.making container.now) G.is_step
+        (λ lines. PlaceLines (reading_of C.Container C.Stepwise.own container.now) C.is_step
         trace.old.pass place act.entry done.1 lines done.0)) }
 {
-    match held::<G, _>(container, place) {
+    match held(container, place) {
         Place::Nobody => Ok((Place::Nobody, Answer::NoPass)),
         Place::Resting(pass) => act_resting::<G, _, _>(container, rt, alloc, pass, act, trace),
-        Place::Acting(begun) => act_begun::<G, _>(container, begun, act, trace),
+        Place::Acting(begun) => act_begun(container, begun, act, trace),
     }
 }
 
 /// The same place. In each arm of a match on it the prover knows what it holds, so that it proves by
 /// itself what the arm's call requires.
-fn held<'a, G: Scripted<'a, C>, C: Container<Value<'a>>>(
+fn held<'a, C: Named<Value<'a>>>(
     _container: &C,
-    place: Place<C::Pass, G::Op>,
-) -> Place<C::Pass, G::Op>
-    requires { (found : Named) × Shows (reading_of C.Container G.is_making G.making _container.now)
+    place: Place<C::Pass, C::Op>,
+) -> Place<C::Pass, C::Op>
+    requires { (found : Meaning) × Shows (reading_of C.Container C.Stepwise.own _container.now)
         place found }
     ensures same { result ≡ place }
-    ensures held { Holds (reading_of C.Container G.is_making G.making _container.now) result }
+    ensures held { Holds (reading_of C.Container C.Stepwise.own _container.now) result }
 {
     place
 }
 
 /// Does the same with a pass between its calls.
-fn act_resting<'a, G: Scripted<'a, C>, C: Container<Value<'a>>, R: Wait>(
+fn act_resting<'a, G: Ranges<'a, C>, C: Named<Value<'a>>, R: Wait>(
     container: &C,
     rt: &R,
     alloc: Global,
     pass: C::Pass,
     act: Act<'a>,
     trace: &mut Trace,
-) -> Result<(Place<C::Pass, G::Op>, Answer<'a>), AllocError>
+) -> Result<(Place<C::Pass, C::Op>, Answer<'a>), AllocError>
     requires pass { C.is_pass container.now pass }
     requires alone { (other : PassName) → ¬ (act ≡ Meet other) }
     requires fits { IsFor (C.shape container.now).order act }
-    ensures told { IfOk result (λ done. (after : Named)
-        × Shows (reading_of C.Container G.is_making G.making container.now) done.0 after
+    ensures told { IfOk result (λ done. (after : Meaning)
+        × Shows (reading_of C.Container C.Stepwise.own container.now) done.0 after
         × RestingTold (C.shape container.now) (C.pass pass) act.entry done.1 after) }
     ensures traced { IfOk result (λ done. Traces trace.old trace.new
-        (λ lines. RestingLines (reading_of C.Container G.is_making G.making container.now) G.is_step
+        (λ lines. RestingLines (reading_of C.Container C.Stepwise.own container.now) C.is_step
         trace.old.pass pass act.entry done.1 lines done.0)) }
 {
     match act {
         Act::Call(command) => {
-            let (pass, reply) = make_call::<G, _, _>(container, rt, pass, command, trace)?;
+            let (pass, reply) = make_call(container, rt, pass, command, trace)?;
             Ok((Place::Resting(pass), Answer::Call(reply)))
         }
         Act::Begin(command) => {
-            let operation = G::begin(container, pass, command);
+            let operation = container.begin(pass, command);
             let begun = Begun {
                 operation,
                 steps: 0,
@@ -115,7 +116,7 @@ fn act_resting<'a, G: Scripted<'a, C>, C: Container<Value<'a>>, R: Wait>(
 }
 
 /// Makes a whole call. If a trace is kept, it makes the call by steps, so that each has its line.
-fn make_call<'a, G: Scripted<'a, C>, C: Container<Value<'a>>, R: Wait>(
+fn make_call<'a, C: Named<Value<'a>>, R: Wait>(
     container: &C,
     rt: &R,
     by: C::Pass,
@@ -127,17 +128,17 @@ fn make_call<'a, G: Scripted<'a, C>, C: Container<Value<'a>>, R: Wait>(
     ensures gives { IfOk result (λ done. CallGives (C.shape container.now)
         (C.pass by) command.entry (C.pass done.0) done.1) }
     ensures traced { IfOk result (λ done. Traces trace.old trace.new (CallLines
-        (reading_of C.Container G.is_making G.making container.now) G.is_step trace.old.pass command.entry
+        (reading_of C.Container C.Stepwise.own container.now) C.is_step trace.old.pass command.entry
         by done.0 done.1)) }
 {
     if !trace.is_kept() {
-        return Ok(call_whole::<G, _, _>(container, rt, by, command));
+        return Ok(call_whole(container, rt, by, command));
     }
-    let mut operation = G::begin(container, by, command);
+    let mut operation = container.begin(by, command);
     let mut made: u64 = 0;
     for _ in rt.forever() {
         made = made.saturating_add(1);
-        match make_step::<G, _>(container, operation, made, trace)? {
+        match make_step(container, operation, made, trace)? {
             Stepped::Again(next) => operation = next,
             Stepped::Done(pass, reply) => return Ok((pass, reply)),
         }
@@ -146,7 +147,7 @@ fn make_call<'a, G: Scripted<'a, C>, C: Container<Value<'a>>, R: Wait>(
 }
 
 /// Makes a whole call as the container makes it.
-fn call_whole<'a, G: Scripted<'a, C>, C: Container<Value<'a>>, R: Wait>(
+fn call_whole<'a, C: Named<Value<'a>>, R: Wait>(
     container: &C,
     rt: &R,
     by: C::Pass,
@@ -175,33 +176,33 @@ fn call_whole<'a, G: Scripted<'a, C>, C: Container<Value<'a>>, R: Wait>(
             (pass, Reply::Shut(shut))
         }
         Command::Look => {
-            let (pass, is_empty) = G::look(container, rt, by);
+            let (pass, is_empty) = container.look(rt, by);
             (pass, Reply::Look(is_empty))
         }
     }
 }
 
 /// Makes one step of a call, its step of this number, and adds it to the trace.
-fn make_step<'a, G: Scripted<'a, C>, C: Container<Value<'a>>>(
+fn make_step<'a, C: Named<Value<'a>>>(
     container: &C,
-    operation: G::Op,
+    operation: C::Op,
     number: u64,
     trace: &mut Trace,
-) -> Result<Stepped<G::Op, C::Pass, Reply<Value<'a>>>, AllocError>
-    requires { (call : Command (List ℕ)) × G.is_making container.now call operation }
-    ensures gives { (call : Command (List ℕ)) → G.is_making container.now call operation
-        → IfOk result (StepOf (reading_of C.Container G.is_making G.making container.now) call operation) }
+) -> Result<Stepped<C::Op, C::Pass, Reply<Value<'a>>>, AllocError>
+    requires { (call : Command (List ℕ)) × C.is_making container.now call operation }
+    ensures gives { (call : Command (List ℕ)) → C.is_making container.now call operation
+        → IfOk result (StepOf (reading_of C.Container C.Stepwise.own container.now) call operation) }
     ensures traced { IfOk result (λ stepped. Traces trace.old trace.new (λ lines. (line : List ℕ)
-        × (lines ≡ line ∷ []) × StepLine (reading_of C.Container G.is_making G.making container.now)
-        G.is_step trace.old.pass number operation stepped line)) }
+        × (lines ≡ line ∷ []) × StepLine (reading_of C.Container C.Stepwise.own container.now)
+        C.is_step trace.old.pass number operation stepped line)) }
 {
     if !trace.is_kept() {
-        return Ok(G::step(container, operation));
+        return Ok(container.step(operation));
     }
-    let name = G::step_name(&operation);
-    let stepped = G::step(container, operation);
+    let name = C::step_name(&operation);
+    let stepped = container.step(operation);
     let next = match &stepped {
-        Stepped::Again(next) => Some(G::step_name(next)),
+        Stepped::Again(next) => Some(C::step_name(next)),
         Stepped::Done(_, _) => None,
     };
     let outcome = name.outcome(next);
@@ -214,50 +215,50 @@ fn make_step<'a, G: Scripted<'a, C>, C: Container<Value<'a>>>(
 }
 
 /// Does the same with a pass in the middle of a call. If the pass is dropped, so is its operation.
-fn act_begun<'a, G: Scripted<'a, C>, C: Container<Value<'a>>>(
+fn act_begun<'a, C: Named<Value<'a>>>(
     container: &C,
-    begun: Begun<G::Op>,
+    begun: Begun<C::Op>,
     act: Act<'a>,
     trace: &mut Trace,
-) -> Result<(Place<C::Pass, G::Op>, Answer<'a>), AllocError>
+) -> Result<(Place<C::Pass, C::Op>, Answer<'a>), AllocError>
     requires { (call : Command (List ℕ))
-        × G.is_making container.now call begun.operation }
+        × C.is_making container.now call begun.operation }
     ensures told { (call : Command (List ℕ)) (u : Underway (List ℕ))
-        → Shows (reading_of C.Container G.is_making G.making container.now) (AtWork begun) (Acting call u)
-        → IfOk result (λ done. (after : Named)
-        × Shows (reading_of C.Container G.is_making G.making container.now) done.0 after
+        → Shows (reading_of C.Container C.Stepwise.own container.now) (AtWork begun) (Acting call u)
+        → IfOk result (λ done. (after : Meaning)
+        × Shows (reading_of C.Container C.Stepwise.own container.now) done.0 after
         × ActingTold (C.shape container.now) call u act.entry done.1 after) }
-    ensures traced { IsCounted (reading_of C.Container G.is_making G.making container.now) begun
+    ensures traced { IsCounted (reading_of C.Container C.Stepwise.own container.now) begun
         → IfOk result (λ done. Traces trace.old trace.new (λ lines. (call : Command (List ℕ))
-        → G.is_making container.now call begun.operation
-        → ActingLines (reading_of C.Container G.is_making G.making container.now) G.is_step trace.old.pass
+        → C.is_making container.now call begun.operation
+        → ActingLines (reading_of C.Container C.Stepwise.own container.now) C.is_step trace.old.pass
         call begun act.entry done.1 lines done.0)) }
 {
     match act {
-        Act::Step(count) => make_steps::<G, _>(container, begun, count, trace),
+        Act::Step(count) => make_steps(container, begun, count, trace),
         Act::Drop => Ok((Place::Nobody, Answer::Dropped)),
         _ => Ok((Place::Acting(begun), Answer::Busy)),
     }
 }
 
 /// Makes `count` steps of a call, or fewer if it ends.
-fn make_steps<'a, G: Scripted<'a, C>, C: Container<Value<'a>>>(
+fn make_steps<'a, C: Named<Value<'a>>>(
     container: &C,
-    begun: Begun<G::Op>,
+    begun: Begun<C::Op>,
     count: u16,
     trace: &mut Trace,
-) -> Result<(Place<C::Pass, G::Op>, Answer<'a>), AllocError>
+) -> Result<(Place<C::Pass, C::Op>, Answer<'a>), AllocError>
     requires { (call : Command (List ℕ))
-        × G.is_making container.now call begun.operation }
+        × C.is_making container.now call begun.operation }
     ensures told { (call : Command (List ℕ)) (u : Underway (List ℕ))
-        → Shows (reading_of C.Container G.is_making G.making container.now) (AtWork begun) (Acting call u)
-        → IfOk result (λ done. (after : Named)
-        × Shows (reading_of C.Container G.is_making G.making container.now) done.0 after
+        → Shows (reading_of C.Container C.Stepwise.own container.now) (AtWork begun) (Acting call u)
+        → IfOk result (λ done. (after : Meaning)
+        × Shows (reading_of C.Container C.Stepwise.own container.now) done.0 after
         × StepsTold (C.shape container.now) call u count done.1 after) }
-    ensures traced { IsCounted (reading_of C.Container G.is_making G.making container.now) begun
+    ensures traced { IsCounted (reading_of C.Container C.Stepwise.own container.now) begun
         → IfOk result (λ done. Traces trace.old trace.new (λ lines. (call : Command (List ℕ))
-        → G.is_making container.now call begun.operation
-        → ActingLines (reading_of C.Container G.is_making G.making container.now) G.is_step trace.old.pass
+        → C.is_making container.now call begun.operation
+        → ActingLines (reading_of C.Container C.Stepwise.own container.now) C.is_step trace.old.pass
         call begun (Step count) done.1 lines done.0)) }
 {
     let Begun {
@@ -268,7 +269,7 @@ fn make_steps<'a, G: Scripted<'a, C>, C: Container<Value<'a>>>(
     while made < u64::from(count) {
         made += 1;
         let number = steps.saturating_add(made);
-        match make_step::<G, _>(container, operation, number, trace)? {
+        match make_step(container, operation, number, trace)? {
             Stepped::Again(next) => operation = next,
             Stepped::Done(pass, reply) => {
                 return Ok((Place::Resting(pass), Answer::Ended(reply, number)));

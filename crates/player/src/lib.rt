@@ -12,12 +12,14 @@
 #![tactic(auto)]
 
 mod acts;
+mod bulk_ranges;
 mod place;
 mod playing;
-mod scripted;
+mod ranges;
 mod stage;
 mod trace;
 
+pub use bulk_ranges::BulkRanges;
 pub use playing::play;
-pub use scripted::Scripted;
+pub use ranges::Ranges;
 pub use trace::{MadeStep, Trace};

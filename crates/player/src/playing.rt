@@ -10,14 +10,14 @@ ghost use Rattle.script.specs.Script.{FinishesLast, IsLine, is_allowed, text_of}
 ghost use Rattle.script.specs.declared.answer.Answer.{Answer};
 ghost use Rattle.script.specs.declared.answer.Answer.TheVariants.{Rest as LeftOver};
 
-use crate::scripted::Scripted;
+use crate::ranges::Ranges;
 use crate::stage::{Stage, act, finish};
 use crate::trace::Trace;
-use bounded_model::Container;
 use script::{Answer, Line, Value};
 use std::alloc::{AllocError, Global};
 use std::collections::VecDeque;
 use std::sync::Wait;
+use step_names::Named;
 
 /// Plays the lines of a script over a container from which no pass is out, and adds the steps that
 /// are made to the trace. Returns the text of the replies, a line for each line of the script. The
@@ -28,7 +28,7 @@ use std::sync::Wait;
 /// whole. The trace gains a line for each step, in their order, with the step's name and its number
 /// in the call. It gains a line for each range and fold, and no other line. A line tells a
 /// compare-and-swap's outcome by the names of this step and the next (`StepName::outcome`).
-pub fn play<'a, G: Scripted<'a, C>, C: Container<Value<'a>>, R: Wait>(
+pub fn play<'a, G: Ranges<'a, C>, C: Named<Value<'a>>, R: Wait>(
     rt: &R,
     alloc: Global,
     container: C,
@@ -47,7 +47,7 @@ pub fn play<'a, G: Scripted<'a, C>, C: Container<Value<'a>>, R: Wait>(
         × (string_bytes output ≡ text_of (map answer_text answers))) }
     ensures traced { IfOk result (λ output. Adds (lines_in trace.old) (lines_in trace.new)
         (λ traced. (answers : List Answer)
-        × PlaysTraced (reading_of C.Container G.is_making G.making container) G.is_step
+        × PlaysTraced (reading_of C.Container C.Stepwise.own container) C.is_step
         (start (C.root root)) nothing_held lines.entry.items answers traced
         × (string_bytes output ≡ text_of (map answer_text answers)))) }
 {
@@ -62,7 +62,7 @@ pub fn play<'a, G: Scripted<'a, C>, C: Container<Value<'a>>, R: Wait>(
                 write_reply(answer, &mut output)?;
             }
             Line::Finish => {
-                play_end::<G, _>(alloc, container, stage, &mut output)?;
+                play_end(alloc, container, stage, &mut output)?;
                 return Ok(output);
             }
         }
@@ -79,18 +79,18 @@ fn write_reply(answer: Answer<'_>, output: &mut String) -> Result<(), AllocError
 }
 
 /// Ends the container, and adds the line of the values that are left.
-fn play_end<'a, G: Scripted<'a, C>, C: Container<Value<'a>>>(
+fn play_end<'a, C: Named<Value<'a>>>(
     alloc: Global,
     container: C,
-    stage: Stage<C::Root, C::Pass, G::Op>,
+    stage: Stage<C::Root, C::Pass, C::Op>,
     output: &mut String,
 ) -> Result<(), AllocError>
-    requires { (world : World) × IsOn (reading_of C.Container G.is_making G.making container) stage world }
-    ensures { (world : World) → IsOn (reading_of C.Container G.is_making G.making container) stage world
+    requires { (world : World) × IsOn (reading_of C.Container C.Stepwise.own container) stage world }
+    ensures { (world : World) → IsOn (reading_of C.Container C.Stepwise.own container) stage world
         → OnOk result ((values : List (List ℕ)) × Ends (C.shape container) world values
         × (string_bytes output.new
         ≡ string_bytes output.old ++ (answer_text (LeftOver values) ++ codes "\n"))) }
 {
-    let answer = Answer::Rest(finish::<G, _>(alloc, container, stage)?);
+    let answer = Answer::Rest(finish(alloc, container, stage)?);
     answer.write_line(output)
 }

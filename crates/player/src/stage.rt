@@ -2,7 +2,7 @@
 
 ghost use Rattle.std.specs.Prelude.{◌≡◌, ◌≢◌, ◌-◌, if◌then◌else◌, List, IsTrue, IfOk, slice_set};
 ghost use Rattle.std.specs.Char.{is_ascii_lowercase};
-ghost use Rattle.player.specs.Plays.{Acts, Does, DoesMeet, Ends, IsFit, IsFor, JoinsAll, JoinsOne, MeetTold, Named, World, start};
+ghost use Rattle.player.specs.Plays.{Acts, Does, DoesMeet, Ends, IsFit, IsFor, JoinsAll, JoinsOne, MeetTold, Meaning, World, start};
 ghost use Rattle.player.specs.Shows.{Found, IsOn, IsStage, Shows, ShowsAll, reading_of};
 ghost use Rattle.player.specs.Traces.{ActsTraced, AreKept, DoesTraced, IsFound, IsKept, Traces, held_by};
 ghost use Rattle.player.specs.declared.place.Place.TheVariants.{Nobody};
@@ -12,12 +12,13 @@ ghost use Rattle.script.specs.declared.line.PassName.{PassName};
 
 use crate::acts::act_at;
 use crate::place::{Place, Places};
-use crate::scripted::Scripted;
+use crate::ranges::Ranges;
 use crate::trace::Trace;
-use bounded_model::{Container, Leaving};
+use bounded_model::Leaving;
 use script::{Act, Answer, PassName, Value, ValueList};
 use std::alloc::{AllocError, Global};
 use std::sync::Wait;
+use step_names::Named;
 
 /// The root of a container, and what each letter names. Its allocator keeps the values of ranges
 /// and folds.
@@ -48,20 +49,20 @@ impl<R: Drop, P: Drop, O: Drop> Stage<R, P, O> {
 
 /// Takes what a letter names out of its place. A letter that names nobody gets a new pass, if one
 /// can be had.
-fn find<'a, G: Scripted<'a, C>, C: Container<Value<'a>>>(
+fn find<'a, C: Named<Value<'a>>>(
     container: &C,
-    stage: &mut Stage<C::Root, C::Pass, G::Op>,
+    stage: &mut Stage<C::Root, C::Pass, C::Op>,
     name: PassName,
-) -> Place<C::Pass, G::Op>
-    requires on { (world : World) × IsOn (reading_of C.Container G.is_making G.making container.now)
+) -> Place<C::Pass, C::Op>
+    requires on { (world : World) × IsOn (reading_of C.Container C.Stepwise.own container.now)
         stage.old world }
     requires name { IsTrue (is_ascii_lowercase name.0) }
-    ensures found { (world : World) → IsOn (reading_of C.Container G.is_making G.making container.now)
-        stage.old world → Found (reading_of C.Container G.is_making G.making container.now) world name.0
+    ensures found { (world : World) → IsOn (reading_of C.Container C.Stepwise.own container.now)
+        stage.old world → Found (reading_of C.Container C.Stepwise.own container.now) world name.0
         stage.new result }
-    ensures on { (world : World) × IsOn (reading_of C.Container G.is_making G.making container.now)
+    ensures on { (world : World) × IsOn (reading_of C.Container C.Stepwise.own container.now)
         stage.new world }
-    ensures shows { (found : Named) × Shows (reading_of C.Container G.is_making G.making container.now)
+    ensures shows { (found : Meaning) × Shows (reading_of C.Container C.Stepwise.own container.now)
         result found }
     ensures same { IsFound (held_by stage.old.places.of.items name.0) result }
     ensures places { stage.new.places.of.items
@@ -88,59 +89,59 @@ fn keep<R: Drop, P: Drop, O: Drop>(stage: &mut Stage<R, P, O>, name: PassName, p
 
 /// Does what a line of the trace's pass says, adds the steps that are made to the trace, and returns
 /// the reply.
-pub fn act<'a, G: Scripted<'a, C>, C: Container<Value<'a>>, R: Wait>(
+pub fn act<'a, G: Ranges<'a, C>, C: Named<Value<'a>>, R: Wait>(
     container: &C,
     rt: &R,
-    stage: &mut Stage<C::Root, C::Pass, G::Op>,
+    stage: &mut Stage<C::Root, C::Pass, C::Op>,
     act: Act<'a>,
     trace: &mut Trace,
 ) -> Result<Answer<'a>, AllocError>
-    requires { IsStage C.Container G.is_making G.making container.now stage.old
+    requires { IsStage C.Container C.Stepwise.own container.now stage.old
         × IsFit (C.shape container.now).order trace.old.pass.0 act }
-    ensures acts { (world : World) → IsOn (reading_of C.Container G.is_making G.making container.now)
+    ensures acts { (world : World) → IsOn (reading_of C.Container C.Stepwise.own container.now)
         stage.old world → IfOk result (λ answer. (next : World)
-        × IsOn (reading_of C.Container G.is_making G.making container.now) stage.new next
+        × IsOn (reading_of C.Container C.Stepwise.own container.now) stage.new next
         × Acts (C.shape container.now) world trace.old.pass.0 act.entry answer next) }
-    ensures traced { (world : World) → IsOn (reading_of C.Container G.is_making G.making container.now)
+    ensures traced { (world : World) → IsOn (reading_of C.Container C.Stepwise.own container.now)
         stage.old world → IfOk result (λ answer. Traces trace.old trace.new (λ lines. (next : World)
-        × IsOn (reading_of C.Container G.is_making G.making container.now) stage.new next
-        × ActsTraced (reading_of C.Container G.is_making G.making container.now) G.is_step world
+        × IsOn (reading_of C.Container C.Stepwise.own container.now) stage.new next
+        × ActsTraced (reading_of C.Container C.Stepwise.own container.now) C.is_step world
         stage.old.places.of.items trace.old.pass act.entry answer lines next
         stage.new.places.of.items)) }
 {
     let name = trace.pass;
     match act {
-        Act::Meet(other) => Ok(meet::<G, _>(container, stage, name, other)),
+        Act::Meet(other) => Ok(meet(container, stage, name, other)),
         act => act_alone::<G, _, _>(container, rt, stage, name, act, trace),
     }
 }
 
 /// Does it at the place of its letter.
-fn act_alone<'a, G: Scripted<'a, C>, C: Container<Value<'a>>, R: Wait>(
+fn act_alone<'a, G: Ranges<'a, C>, C: Named<Value<'a>>, R: Wait>(
     container: &C,
     rt: &R,
-    stage: &mut Stage<C::Root, C::Pass, G::Op>,
+    stage: &mut Stage<C::Root, C::Pass, C::Op>,
     name: PassName,
     act: Act<'a>,
     trace: &mut Trace,
 ) -> Result<Answer<'a>, AllocError>
-    requires on { (world : World) × IsOn (reading_of C.Container G.is_making G.making container.now)
+    requires on { (world : World) × IsOn (reading_of C.Container C.Stepwise.own container.now)
         stage.old world }
     requires small { IsTrue (is_ascii_lowercase name.0) }
     requires fits { IsFor (C.shape container.now).order act }
     requires alone { (other : PassName) → ¬ (act ≡ Meet other) }
-    ensures acts { (world : World) → IsOn (reading_of C.Container G.is_making G.making container.now)
+    ensures acts { (world : World) → IsOn (reading_of C.Container C.Stepwise.own container.now)
         stage.old world → IfOk result (λ answer. (next : World)
-        × IsOn (reading_of C.Container G.is_making G.making container.now) stage.new next
+        × IsOn (reading_of C.Container C.Stepwise.own container.now) stage.new next
         × Does (C.shape container.now) world name.0 act.entry answer next) }
-    ensures traced { (world : World) → IsOn (reading_of C.Container G.is_making G.making container.now)
+    ensures traced { (world : World) → IsOn (reading_of C.Container C.Stepwise.own container.now)
         stage.old world → trace.old.pass ≡ name → IfOk result
         (λ answer. Traces trace.old trace.new (λ lines. (next : World)
-        × IsOn (reading_of C.Container G.is_making G.making container.now) stage.new next
-        × DoesTraced (reading_of C.Container G.is_making G.making container.now) G.is_step world
+        × IsOn (reading_of C.Container C.Stepwise.own container.now) stage.new next
+        × DoesTraced (reading_of C.Container C.Stepwise.own container.now) C.is_step world
         stage.old.places.of.items name act.entry answer lines next stage.new.places.of.items)) }
 {
-    let place = find::<G, _>(container, stage, name);
+    let place = find(container, stage, name);
     let alloc = stage.alloc;
     let (place, answer) = act_at::<G, _, _>(container, rt, alloc, place, act, trace)?;
     keep(stage, name, place);
@@ -148,47 +149,47 @@ fn act_alone<'a, G: Scripted<'a, C>, C: Container<Value<'a>>, R: Wait>(
 }
 
 /// Two passes meet, if both are there and between their calls.
-fn meet<'a, G: Scripted<'a, C>, C: Container<Value<'a>>>(
+fn meet<'a, C: Named<Value<'a>>>(
     container: &C,
-    stage: &mut Stage<C::Root, C::Pass, G::Op>,
+    stage: &mut Stage<C::Root, C::Pass, C::Op>,
     name: PassName,
     other: PassName,
 ) -> Answer<'a>
-    requires on { (world : World) × IsOn (reading_of C.Container G.is_making G.making container.now)
+    requires on { (world : World) × IsOn (reading_of C.Container C.Stepwise.own container.now)
         stage.old world }
     requires name { IsTrue (is_ascii_lowercase name.0) }
     requires other { IsTrue (is_ascii_lowercase other.0) × (name.0 ≢ other.0) }
-    ensures meets { (world : World) → IsOn (reading_of C.Container G.is_making G.making container.now)
+    ensures meets { (world : World) → IsOn (reading_of C.Container C.Stepwise.own container.now)
         stage.old world → (next : World)
-        × IsOn (reading_of C.Container G.is_making G.making container.now) stage.new next
+        × IsOn (reading_of C.Container C.Stepwise.own container.now) stage.new next
         × DoesMeet (C.shape container.now) world name.0 other.0 result next }
     ensures kept { AreKept stage.old.places.of.items stage.new.places.of.items }
 {
-    let first = find::<G, _>(container, stage, name);
+    let first = find(container, stage, name);
     if let Place::Nobody = first {
         return Answer::NoPass;
     }
-    let second = find::<G, _>(container, stage, other);
-    let (first, second, answer) = meet_at::<G, _>(container, first, second);
+    let second = find(container, stage, other);
+    let (first, second, answer) = meet_at(container, first, second);
     keep(stage, name, first);
     keep(stage, other, second);
     answer
 }
 
 /// Has what two letters name meet. The first names somebody.
-fn meet_at<'a, G: Scripted<'a, C>, C: Container<Value<'a>>>(
+fn meet_at<'a, C: Named<Value<'a>>>(
     container: &C,
-    first: Place<C::Pass, G::Op>,
-    second: Place<C::Pass, G::Op>,
-) -> (Place<C::Pass, G::Op>, Place<C::Pass, G::Op>, Answer<'a>)
-    requires first { (found : Named) × Shows (reading_of C.Container G.is_making G.making container.now)
+    first: Place<C::Pass, C::Op>,
+    second: Place<C::Pass, C::Op>,
+) -> (Place<C::Pass, C::Op>, Place<C::Pass, C::Op>, Answer<'a>)
+    requires first { (found : Meaning) × Shows (reading_of C.Container C.Stepwise.own container.now)
         first found }
-    requires second { (found : Named) × Shows (reading_of C.Container G.is_making G.making container.now)
+    requires second { (found : Meaning) × Shows (reading_of C.Container C.Stepwise.own container.now)
         second found }
-    ensures meets { (one two : Named) → Shows (reading_of C.Container G.is_making G.making container.now)
-        first one → Shows (reading_of C.Container G.is_making G.making container.now) second two
-        → (after : Named) × Shows (reading_of C.Container G.is_making G.making container.now) result.0
-        after × Shows (reading_of C.Container G.is_making G.making container.now) result.1 two
+    ensures meets { (one two : Meaning) → Shows (reading_of C.Container C.Stepwise.own container.now)
+        first one → Shows (reading_of C.Container C.Stepwise.own container.now) second two
+        → (after : Meaning) × Shows (reading_of C.Container C.Stepwise.own container.now) result.0
+        after × Shows (reading_of C.Container C.Stepwise.own container.now) result.1 two
         × MeetTold one two result.2 after }
     ensures first_kept { IsKept first result.0 }
     ensures second_kept { IsKept second result.1 }
@@ -223,35 +224,35 @@ fn answer_to_meet<'a>(has_met: bool) -> Answer<'a>
 }
 
 /// Joins the passes that are between their calls, in the order of the letters, and drops the rest.
-fn join_all<'a, G: Scripted<'a, C>, C: Container<Value<'a>>>(
+fn join_all<'a, C: Named<Value<'a>>>(
     container: &C,
     root: &mut C::Root,
-    places: Places<C::Pass, G::Op>,
+    places: Places<C::Pass, C::Op>,
 )
     requires root { C.is_root container.now root.old }
-    requires places { (names : List Named)
-        × ShowsAll (reading_of C.Container G.is_making G.making container.now) places.of.items names }
+    requires places { (names : List Meaning)
+        × ShowsAll (reading_of C.Container C.Stepwise.own container.now) places.of.items names }
     ensures root { C.is_root container.now root.new }
-    ensures joined { (names : List Named)
-        → ShowsAll (reading_of C.Container G.is_making G.making container.now) places.of.items names
+    ensures joined { (names : List Meaning)
+        → ShowsAll (reading_of C.Container C.Stepwise.own container.now) places.of.items names
         → JoinsAll (C.root root.old) names (C.root root.new) }
 {
     let Places { of } = places;
     for place in of {
-        join_one::<G, _>(container, root, place);
+        join_one(container, root, place);
     }
 }
 
-fn join_one<'a, G: Scripted<'a, C>, C: Container<Value<'a>>>(
+fn join_one<'a, C: Named<Value<'a>>>(
     container: &C,
     root: &mut C::Root,
-    place: Place<C::Pass, G::Op>,
+    place: Place<C::Pass, C::Op>,
 )
     requires root { C.is_root container.now root.old }
-    requires place { (name : Named) × Shows (reading_of C.Container G.is_making G.making container.now)
+    requires place { (name : Meaning) × Shows (reading_of C.Container C.Stepwise.own container.now)
         place name }
     ensures root { C.is_root container.now root.new }
-    ensures joined { (name : Named) → Shows (reading_of C.Container G.is_making G.making container.now)
+    ensures joined { (name : Meaning) → Shows (reading_of C.Container C.Stepwise.own container.now)
         place name → JoinsOne (C.root root.old) name (C.root root.new) }
 {
     match place {
@@ -262,13 +263,13 @@ fn join_one<'a, G: Scripted<'a, C>, C: Container<Value<'a>>>(
 }
 
 /// Ends the container, and returns the values that are left.
-pub fn finish<'a, G: Scripted<'a, C>, C: Container<Value<'a>>>(
+pub fn finish<'a, C: Named<Value<'a>>>(
     alloc: Global,
     container: C,
-    stage: Stage<C::Root, C::Pass, G::Op>,
+    stage: Stage<C::Root, C::Pass, C::Op>,
 ) -> Result<ValueList<'a>, AllocError>
-    requires { (world : World) × IsOn (reading_of C.Container G.is_making G.making container) stage world }
-    ensures { (world : World) → IsOn (reading_of C.Container G.is_making G.making container) stage world
+    requires { (world : World) × IsOn (reading_of C.Container C.Stepwise.own container) stage world }
+    ensures { (world : World) → IsOn (reading_of C.Container C.Stepwise.own container) stage world
         → IfOk result (Ends (C.shape container) world) }
 {
     let Stage {
@@ -276,7 +277,7 @@ pub fn finish<'a, G: Scripted<'a, C>, C: Container<Value<'a>>>(
         places,
         ..
     } = stage;
-    join_all::<G, _>(&container, &mut root, places);
+    join_all(&container, &mut root, places);
     values_left(alloc, container.finish(root))
 }
 

@@ -1,3 +1,2 @@
-pub mod Folding
 pub mod Outcomes
 pub mod Tracing

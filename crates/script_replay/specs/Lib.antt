@@ -1,4 +1,3 @@
-pub mod Calls
 pub mod Faults
 pub mod Outcome
 pub mod Readings

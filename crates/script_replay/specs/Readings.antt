@@ -1,24 +1,16 @@
 -- How a queue's and a stack's roots, passes and operations are read.
 use Rattle.std.specs.Prelude.{ℕ, List}
-use Rattle.tagged_index.specs.Limits.{capacity_of}
-use Rattle.bounded_model.specs.declared.container.TheConstants.{MAX_PASSES}
-use Rattle.queue_table.specs.Layout as of_queue
-use Rattle.stack_table.specs.Layout as of_stack
-use Rattle.ms_queue.specs.declared.rule.Queued.{Queued}
 use Rattle.ms_queue.specs.Queue as queue
 use Rattle.ms_queue.specs.Stepwise as queue_steps
-use Rattle.ms_queue.specs.declared.life.queue.AnyOp as queue_op
-use Rattle.treiber_stack.specs.declared.rule.Stacked.{Stacked}
 use Rattle.treiber_stack.specs.Stack as stack
 use Rattle.treiber_stack.specs.Stepwise as stack_steps
-use Rattle.treiber_stack.specs.declared.life.stack.AnyOp as stack_op
 use Rattle.player.specs.Shows.{Reading}
 
--- a queue of texts; the record says how large its table is, as `impl Laid for Queued` does
+-- a queue of texts
 abbrev pub Queue : Type 0
-Queue = queue.Queue (List ℕ) Queued (record { words_for = λ k. of_queue.words_for (capacity_of k); slots_for = λ k. capacity_of k; passes_for = λ k. MAX_PASSES })
+Queue = queue.Queue (List ℕ)
 
-abbrev pub queue_reading : Queue → Reading (queue.Root (List ℕ)) (queue.Pass (List ℕ)) (queue_op.AnyOp (List ℕ))
+abbrev pub queue_reading : Queue → Reading (queue.Root (List ℕ)) (queue.Pass (List ℕ)) (queue_steps.AnyOp (List ℕ))
 queue_reading c = record {
   shape = queue.shape_of c;
   is_root = queue.IsRootOf c;
@@ -31,9 +23,9 @@ queue_reading c = record {
 
 -- and a stack
 abbrev pub Stack : Type 0
-Stack = stack.Stack (List ℕ) Stacked (record { words_for = λ k. of_stack.words_for (capacity_of k); slots_for = λ k. capacity_of k; passes_for = λ k. MAX_PASSES })
+Stack = stack.Stack (List ℕ)
 
-abbrev pub stack_reading : Stack → Reading (stack.Root (List ℕ)) (stack.Pass (List ℕ)) (stack_op.AnyOp (List ℕ))
+abbrev pub stack_reading : Stack → Reading (stack.Root (List ℕ)) (stack.Pass (List ℕ)) (stack_steps.AnyOp (List ℕ))
 stack_reading c = record {
   shape = stack.shape_of c;
   is_root = stack.IsRootOf c;

@@ -3,72 +3,27 @@
 ghost use Rattle.std.specs.Prelude.{◌≡◌, IfOk, IsTrue, string_bytes};
 ghost use Rattle.std.specs.List.{AllByRecursion};
 ghost use Rattle.bounded_model.specs.Laws.{fresh};
-ghost use Rattle.bounded_model.specs.Stepping.{no_step};
 ghost use Rattle.bounded_model.specs.declared.history.Order.TheVariants.{Fifo};
-ghost use Rattle.ms_queue.specs.Queue.{IsPassOf, IsRootOf, pass_in, root_in};
-ghost use Rattle.ms_queue.specs.Stepwise.{IsMakingCall, making};
+ghost use Rattle.ms_queue.specs.Queue.{IsRootOf, root_in};
 ghost use Rattle.script.specs.Script.{FinishesLast, IsLine, is_allowed};
 ghost use Rattle.script.specs.View.{head_view};
 ghost use Rattle.player.specs.Traces.{Adds, lines_in};
 ghost use Rattle.script_replay.specs.Outcome.{IsOutputIn};
 ghost use Rattle.script_replay.specs.Traced.{IsTracedIn};
 
-use bounded::{NamesSteps, Steps};
-use bounded_model::{Command, MakeRefused, Reply, Stepped, TakeRefused};
-use ms_queue::{AnyOp, Pass, Queue, Queued, Root};
-use player::{Scripted, Trace, play};
+use bounded_model::{MakeRefused, TakeRefused};
+use ms_queue::{Pass, Queue, Root};
+use player::{Ranges, Trace, play};
 use script::{RangeReply, Script, Value, ValueList, Values};
 use std::alloc::{AllocError, Global};
 use std::sync::Wait;
-use step_names::StepName;
 use tagged_index::Limits;
 
-/// The calls of a queue's script. No line of it names a range or a fold: a range hands its values
-/// back, and a fold takes nothing.
-pub(crate) struct QueueLines;
+/// The ranges and folds of a queue's script. No line of it names one: a range hands its values back,
+/// and a fold takes nothing.
+struct NoRanges;
 
-impl<'a> Scripted<'a, Queue<Value<'a>>> for QueueLines {
-    ghost use Rattle.ms_queue.specs.Naming.{IsStep};
-
-    type Op = AnyOp<Value<'a>>;
-
-    ghost is_making = { IsMakingCall };
-
-    ghost making = { making };
-
-    ghost is_step = { IsStep };
-
-    fn begin(
-        queue: &Queue<Value<'a>>,
-        by: Pass<Value<'a>>,
-        command: Command<Value<'a>>,
-    ) -> AnyOp<Value<'a>>
-        requires { IsPassOf queue.now by }
-        ensures call { IsMakingCall queue.now command.entry result }
-        ensures begun { making result ≡ no_step (pass_in by.entry) }
-    {
-        Queued::begin(queue, by, command)
-    }
-
-    fn step(
-        queue: &Queue<Value<'a>>,
-        op: AnyOp<Value<'a>>,
-    ) -> Stepped<AnyOp<Value<'a>>, Pass<Value<'a>>, Reply<Value<'a>>> {
-        Queued::step(queue, op)
-    }
-
-    fn step_name(op: &AnyOp<Value<'a>>) -> StepName {
-        Queued::step_name(op)
-    }
-
-    fn look<R: Wait>(
-        queue: &Queue<Value<'a>>,
-        rt: &R,
-        by: Pass<Value<'a>>,
-    ) -> (Pass<Value<'a>>, bool) {
-        Queued::look(queue, rt, by)
-    }
-
+impl<'a> Ranges<'a, Queue<Value<'a>>> for NoRanges {
     fn range<R: Wait>(
         _queue: &Queue<Value<'a>>,
         _rt: &R,
@@ -100,7 +55,7 @@ fn new_queue<'a>(
     ensures { IfOk result (λ made. (made.0.table.shared.key ≡ limits) × IsRootOf made.0 made.1
         × (root_in made.1 ≡ fresh)) }
 {
-    <Queued as bounded::Parts<_, _, _, _, _, 2>>::make(alloc, limits)
+    Queue::new(alloc, limits)
 }
 
 /// Plays a queue's script, and adds its steps to the trace. `NoMemory` if memory ran out for the
@@ -122,5 +77,5 @@ pub(crate) fn play_queue<R: Wait>(
 {
     let Script { header, lines } = script;
     let (queue, root) = new_queue(alloc, header.limits)?;
-    Ok(play::<QueueLines, _, _>(rt, alloc, queue, root, lines, trace)?)
+    Ok(play::<NoRanges, _, _>(rt, alloc, queue, root, lines, trace)?)
 }

@@ -9,7 +9,7 @@ use Rattle.player.proofs.acts.make_call.Goals as goal
 
 pub loop-init : goal.loop-init
 loop-init g c =
-    let r = reading_of g.C.Container g.G.Scripted.is_making g.G.Scripted.making c.args.container.now in
+    let r = reading_of g.C.Container g.C.Stepwise c.args.container.now in
     let begun = c.begin-operation.ensures.begun in
     record {
       can = tt;
@@ -23,8 +23,8 @@ loop-init g c =
 
 pub loop-preserved : goal.loop-preserved
 loop-preserved g c =
-    let r = reading_of g.C.Container g.G.Scripted.is_making g.G.Scripted.making c.args.container.now in
-    let is_step = g.G.Scripted.is_step in
+    let r = reading_of g.C.Container g.C.Stepwise c.args.container.now in
+    let is_step = g.C.Named.is_step in
     let i = c.loop.invariant in
     let was = c.loop.operation in
     let now = c.in-Again.next in
@@ -43,8 +43,8 @@ loop-preserved g c =
 
 pub returns-in-Done-clause-traced : goal.returns-in-Done-clause-traced
 returns-in-Done-clause-traced g c =
-    let r = reading_of g.C.Container g.G.Scripted.is_making g.G.Scripted.making c.args.container.now in
-    let is_step = g.G.Scripted.is_step in
+    let r = reading_of g.C.Container g.C.Stepwise c.args.container.now in
+    let is_step = g.C.Named.is_step in
     let i = c.loop.invariant in
     let was = c.loop.operation in
     let end = Done c.in-Done.pass c.in-Done.reply in

@@ -9,7 +9,7 @@ use Rattle.player.proofs.acts.make_call.Given as goal
 -- the same call has made some steps, which were counted and traced
 abbrev pub invariant-loop : goal.invariant-loop
 invariant-loop g l =
-    let r = reading_of g.C.Container g.G.Scripted.is_making g.G.Scripted.making l.fn.container in
+    let r = reading_of g.C.Container g.C.Stepwise l.fn.container in
     let now = r.made l.operation in
     record {
       can : (goal.iterator-loop g).can_next l.iterator';
@@ -18,5 +18,5 @@ invariant-loop g l =
       begun : now.begun ≡ r.pass l.fn.by;
       counted : l.made ≡ steps_since now.begun now.now;
       later : now.begun.steps ≤ now.now.steps;
-      traced : Traces l.fn.trace l.trace (λ lines. (first : g.row.G-Op.Denot) × r.is_making l.fn.command first × (r.made first ≡ no_step (r.pass l.fn.by)) × StepLines r g.G.Scripted.is_step l.fn.trace.pass l.fn.command (Again first) lines (Again l.operation));
+      traced : Traces l.fn.trace l.trace (λ lines. (first : g.row.C-Op.Denot) × r.is_making l.fn.command first × (r.made first ≡ no_step (r.pass l.fn.by)) × StepLines r g.C.Named.is_step l.fn.trace.pass l.fn.command (Again first) lines (Again l.operation));
     }

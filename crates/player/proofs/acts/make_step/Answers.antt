@@ -7,8 +7,8 @@ use Rattle.player.proofs.acts.make_step.Goals as goal
 
 pub returns-clause-traced : goal.returns-clause-traced
 returns-clause-traced g c =
-    let r = reading_of g.C.Container g.G.Scripted.is_making g.G.Scripted.making c.args.container.now in
-    let is_step = g.G.Scripted.is_step in
+    let r = reading_of g.C.Container g.C.Stepwise c.args.container.now in
+    let is_step = g.C.Named.is_step in
     let came = c.step-stepped.result in
     let next = c.match-stepped.next in
     let follows : IsNextName r is_step came next = elim c.match-stepped.branch [

@@ -12,8 +12,8 @@ use Rattle.player.proofs.acts.make_steps.Goals as goal
 
 pub loop-made-preserved : goal.loop-made-preserved
 loop-made-preserved g c =
-    let r = reading_of g.C.Container g.G.Scripted.is_making g.G.Scripted.making c.args.container.now in
-    let is_step = g.G.Scripted.is_step in
+    let r = reading_of g.C.Container g.C.Stepwise c.args.container.now in
+    let is_step = g.C.Named.is_step in
     let i = c.loop-made.invariant in
     let one = rw c.in-Again.is at c.in_ok-next.ensures.gives i.some.0 i.some.1 in
     record {
@@ -31,7 +31,7 @@ loop-made-preserved g c =
 
 pub returns-in-Done-clause-told : goal.returns-in-Done-clause-told
 returns-in-Done-clause-told g c call u shows =
-    let r = reading_of g.C.Container g.G.Scripted.is_making g.G.Scripted.making c.args.container.now in
+    let r = reading_of g.C.Container g.C.Stepwise c.args.container.now in
     let i = c.loop-made.invariant in
     let done = rw c.in-Done.is at c.in_ok-next.ensures.gives call (i.same call shows.0) in
     let w = r.pass c.in-Done.pass in
@@ -49,7 +49,7 @@ returns-in-Done-clause-told g c call u shows =
 
 pub returns-clause-told : goal.returns-clause-told
 returns-clause-told g c call u shows =
-    let r = reading_of g.C.Container g.G.Scripted.is_making g.G.Scripted.making c.args.container.now in
+    let r = reading_of g.C.Container g.C.Stepwise c.args.container.now in
     let i = c.loop-made.invariant in
     let all : c.loop-made.made ≡ c.args.count = omega arith in
     let w = r.made c.loop-made.operation in
@@ -61,11 +61,11 @@ returns-clause-told g c call u shows =
 
 pub returns-in-Done-clause-traced : goal.returns-in-Done-clause-traced
 returns-in-Done-clause-traced g c start =
-    let r = reading_of g.C.Container g.G.Scripted.is_making g.G.Scripted.making c.args.container.now in
+    let r = reading_of g.C.Container g.C.Stepwise c.args.container.now in
     let i = c.loop-made.invariant in
     let end = Done c.in-Done.pass c.in-Done.reply in
     traces_more _ _ _ _ _ _ (i.traced start) (rw c.in-Done.is at c.in_ok-next.ensures.traced)
     (λ xs ys so_far new call making.
     let step : StepOf r call c.loop-made.operation end = rw c.in-Done.is at c.in_ok-next.ensures.gives call (i.same call making) in
     let counted = number_is r call c.loop-made.operation end (r.made c.args.begun.operation).begun (r.made c.args.begun.operation).now c.args.begun.steps c.loop-made.made _ step i.begun i.makes.steps start.0 start.1 c.saturating_add-number.ensures in
-    step_joined r g.G.Scripted.is_step _ _ call _ c.loop-made.operation end _ xs ys (i.traced start).pass counted step (so_far call making) new)
+    step_joined r g.C.Named.is_step _ _ call _ c.loop-made.operation end _ xs ys (i.traced start).pass counted step (so_far call making) new)

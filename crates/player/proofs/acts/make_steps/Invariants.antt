@@ -9,14 +9,14 @@ use Rattle.player.proofs.acts.make_steps.Given as goal
 -- the same call has made so many steps more
 abbrev pub invariant-loop-made : goal.invariant-loop-made
 invariant-loop-made g l =
-    let r = reading_of g.C.Container g.G.Scripted.is_making g.G.Scripted.making l.fn.container in
+    let r = reading_of g.C.Container g.C.Stepwise l.fn.container in
     record {
       few : l.made ≤ l.fn.count;
       some : (call : Command (List ℕ)) × r.is_making call l.operation;
       same : (call : Command (List ℕ)) → r.is_making call l.fn.begun.operation → r.is_making call l.operation;
       begun : (r.made l.operation).begun ≡ (r.made l.fn.begun.operation).begun;
       makes : MakesSteps l.made (r.made l.fn.begun.operation).now (r.made l.operation).now;
-      traced : IsCounted r l.fn.begun → Traces l.fn.trace l.trace (λ lines. (call : Command (List ℕ)) → r.is_making call l.fn.begun.operation → StepLines r g.G.Scripted.is_step l.fn.trace.pass call (Again l.fn.begun.operation) lines (Again l.operation));
+      traced : IsCounted r l.fn.begun → Traces l.fn.trace l.trace (λ lines. (call : Command (List ℕ)) → r.is_making call l.fn.begun.operation → StepLines r g.C.Named.is_step l.fn.trace.pass call (Again l.fn.begun.operation) lines (Again l.operation));
     }
 
 abbrev pub decreases-loop-made : goal.decreases-loop-made

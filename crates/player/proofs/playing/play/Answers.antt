@@ -18,7 +18,7 @@ empty (line ∷ lines) e = absurd (omega arith)
 
 pub loop-line-init : goal.loop-line-init
 loop-line-init g c =
-    let r = reading_of g.C.Container g.G.Scripted.is_making g.G.Scripted.making c.args.container in
+    let r = reading_of g.C.Container g.C.Stepwise c.args.container in
     let first = start (r.root c.args.root) in
     let on : IsOn r c.in_ok-stage.stage first = record {
       is = rw c.in_ok-stage.ensures.root c.requires.root;
@@ -30,12 +30,12 @@ loop-line-init g c =
       allowed = c.requires.allowed;
       finish_last = c.requires.finish_last;
       playing = (first, on, told_start r.shape first c.args.lines.items (string_bytes c.new-output.result) c.new-output.ensures.bytes);
-      traced = adds_nothing _ _ (first, on, traced_start r g.G.Scripted.is_step first c.args.lines.items _ (string_bytes c.new-output.result) c.in_ok-stage.ensures.places c.new-output.ensures.bytes);
+      traced = adds_nothing _ _ (first, on, traced_start r g.C.Named.is_step first c.args.lines.items _ (string_bytes c.new-output.result) c.in_ok-stage.ensures.places c.new-output.ensures.bytes);
     }
 
 pub act-requires : goal.act-requires
 act-requires g c κs =
-    let r = reading_of g.C.Container g.G.Scripted.is_making g.G.Scripted.making c.args.container in
+    let r = reading_of g.C.Container g.C.Stepwise c.args.container in
     let i = c.loop-line.invariant in
     let name = c.in-By.name in
     let what = c.in-By.what in
@@ -49,11 +49,11 @@ act-requires g c κs =
       fits = is_for r.shape.order name.0 what allowed;
     } in
     let b = c.type_bounds in
-    (b.send-C-Root, (b.send-C-Pass, (b.send-C-Note, (b.send-C-Rest, ((refl, tt), ((i.playing.0, i.playing.1), rw c.turn_to.ensures.pass fit))))))
+    (b.send-C-Op, (b.send-C-Root, (b.send-C-Pass, (b.send-C-Note, (b.send-C-Rest, ((refl, tt), ((i.playing.0, i.playing.1), rw c.turn_to.ensures.pass fit)))))))
 
 pub loop-line-preserved : goal.loop-line-preserved
 loop-line-preserved g c =
-    let r = reading_of g.C.Container g.G.Scripted.is_making g.G.Scripted.making c.args.container in
+    let r = reading_of g.C.Container g.C.Stepwise c.args.container in
     let i = c.loop-line.invariant in
     let line = By c.in-By.name c.in-By.what in
     let rest = c.pop_front.new.self.items in
@@ -65,13 +65,13 @@ loop-line-preserved g c =
       allowed = (subst (λ (ls : List Line). AllByRecursion (λ line. IsTrue (is_allowed r.shape.order line)) ls) left i.allowed).1;
       finish_last = (subst FinishesLast left i.finish_last).1;
       playing = (next.0, next.1, told_more r.shape _ c.args.lines.items i.playing.0 next.0 c.in-By.name c.in-By.what rest _ _ c.in_ok-answer-in-By.answer told (rw c.turn_to.ensures.pass at next.2) c.in_ok-write_reply-in-By.ensures);
-      traced = play_on r g.G.Scripted.is_step (start (r.root c.args.root)) c.args.lines.items c.loop-line.lines.items c.in-By.name c.in-By.what rest _ _ c.in_ok-answer-in-By.answer c.loop-line.stage _ _ c.loop-line.trace c.turn_to.new.self _ left (lines_same c.turn_to.new.self c.loop-line.trace c.turn_to.ensures.lines) c.turn_to.ensures.pass i.traced
+      traced = play_on r g.C.Named.is_step (start (r.root c.args.root)) c.args.lines.items c.loop-line.lines.items c.in-By.name c.in-By.what rest _ _ c.in_ok-answer-in-By.answer c.loop-line.stage _ _ c.loop-line.trace c.turn_to.new.self _ left (lines_same c.turn_to.new.self c.loop-line.trace c.turn_to.ensures.lines) c.turn_to.ensures.pass i.traced
           c.in_ok-answer-in-By.ensures.traced c.in_ok-write_reply-in-By.ensures;
     }
 
 pub returns-in-Finish-clause-plays : goal.returns-in-Finish-clause-plays
 returns-in-Finish-clause-plays g c =
-    let r = reading_of g.C.Container g.G.Scripted.is_making g.G.Scripted.making c.args.container in
+    let r = reading_of g.C.Container g.C.Stepwise c.args.container in
     let i = c.loop-line.invariant in
     let rest = c.pop_front.new.self.items in
     let left : c.loop-line.lines.items ≡ Finish ∷ rest = c.in-Some.ensures.items ∙ ap (λ (l : Line). l ∷ rest) c.in-Finish.is in
@@ -82,7 +82,7 @@ returns-in-Finish-clause-plays g c =
 
 pub returns-clause-plays : goal.returns-clause-plays
 returns-clause-plays g c =
-    let r = reading_of g.C.Container g.G.Scripted.is_making g.G.Scripted.making c.args.container in
+    let r = reading_of g.C.Container g.C.Stepwise c.args.container in
     let i = c.loop-line.invariant in
     let none : c.loop-line.lines.items ≡ [] = empty c.loop-line.lines.items (omega (arith, c.in_default.ensures.cases.0)) in
     let told = subst (λ (ls : List Line). Told r.shape (start (r.root c.args.root)) c.args.lines.items i.playing.0 ls (string_bytes c.loop-line.output)) none i.playing.2 in
@@ -90,8 +90,8 @@ returns-clause-plays g c =
 
 pub returns-in-Finish-clause-traced : goal.returns-in-Finish-clause-traced
 returns-in-Finish-clause-traced g c =
-    let r = reading_of g.C.Container g.G.Scripted.is_making g.G.Scripted.making c.args.container in
-    let is_step = g.G.Scripted.is_step in
+    let r = reading_of g.C.Container g.C.Stepwise c.args.container in
+    let is_step = g.C.Named.is_step in
     let i = c.loop-line.invariant in
     let rest = c.pop_front.new.self.items in
     let left : c.loop-line.lines.items ≡ Finish ∷ rest = c.in-Some.ensures.items ∙ ap (λ (l : Line). l ∷ rest) c.in-Finish.is in
@@ -103,8 +103,8 @@ returns-in-Finish-clause-traced g c =
 
 pub returns-clause-traced : goal.returns-clause-traced
 returns-clause-traced g c =
-    let r = reading_of g.C.Container g.G.Scripted.is_making g.G.Scripted.making c.args.container in
-    let is_step = g.G.Scripted.is_step in
+    let r = reading_of g.C.Container g.C.Stepwise c.args.container in
+    let is_step = g.C.Named.is_step in
     let i = c.loop-line.invariant in
     let none : c.loop-line.lines.items ≡ [] = empty c.loop-line.lines.items (omega (arith, c.in_default.ensures.cases.0)) in
     adds_as _ _ _ _ i.traced (λ lines t.

@@ -12,7 +12,7 @@ use Rattle.player.proofs.playing.play.Given as goal
 -- the lines that are left, and what was written for those before them
 abbrev pub invariant-loop-line : goal.invariant-loop-line
 invariant-loop-line g l =
-    let r = reading_of g.C.Container g.G.Scripted.is_making g.G.Scripted.making l.fn.container in
+    let r = reading_of g.C.Container g.C.Stepwise l.fn.container in
     record {
       each : AllByRecursion IsLine l.lines.items;
       allowed : AllByRecursion (λ line. IsTrue (is_allowed r.shape.order line)) l.lines.items;
@@ -20,7 +20,7 @@ invariant-loop-line g l =
       playing : (world : World) × IsOn r l.stage world
           × Told r.shape (start (r.root l.fn.root)) l.initial.lines.items world l.lines.items (string_bytes l.output);
       traced : Adds (lines_in l.fn.trace) (lines_in l.trace) (λ lines. (world : World) × IsOn r l.stage world
-          × TracedTold r g.G.Scripted.is_step (start (r.root l.fn.root)) l.initial.lines.items world l.stage.places.of.items l.lines.items (string_bytes l.output) lines);
+          × TracedTold r g.C.Named.is_step (start (r.root l.fn.root)) l.initial.lines.items world l.stage.places.of.items l.lines.items (string_bytes l.output) lines);
     }
 
 abbrev pub decreases-loop-line : goal.decreases-loop-line

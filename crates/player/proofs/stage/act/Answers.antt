@@ -9,14 +9,14 @@ use Rattle.player.proofs.stage.act.Goals as goal
 pub meet-requires : goal.meet-requires
 meet-requires g c κs =
     let b = c.type_bounds in
-    (passed _ _ _ g.row.C-Root b.send-C-Root, (passed _ _ _ g.row.C-Pass b.send-C-Pass, (passed _ _ _ g.row.C-Note b.send-C-Note, (passed _ _ _ g.row.C-Rest b.send-C-Rest, ((refl, tt), (c.requires.0, (c.requires.1.small, c.requires.1.another c.in-Meet.other c.in-Meet.is)))))))
+    (passed _ _ _ g.row.C-Op b.send-C-Op, (passed _ _ _ g.row.C-Root b.send-C-Root, (passed _ _ _ g.row.C-Pass b.send-C-Pass, (passed _ _ _ g.row.C-Note b.send-C-Note, (passed _ _ _ g.row.C-Rest b.send-C-Rest, ((refl, tt), (c.requires.0, (c.requires.1.small, c.requires.1.another c.in-Meet.other c.in-Meet.is))))))))
 
 pub returns-in-Meet-clause-acts : goal.returns-in-Meet-clause-acts
 returns-in-Meet-clause-acts g c world on = rw c.in-Meet.is (c.meet.ensures.meets world on)
 
 pub returns-in_default-clause-acts : goal.returns-in_default-clause-acts
 returns-in_default-clause-acts g c world on =
-    let r = reading_of g.C.Container g.G.Scripted.is_making g.G.Scripted.making c.args.container.now in
+    let r = reading_of g.C.Container g.C.Stepwise c.args.container.now in
     if_ok_more c.act_alone.result (λ said did. (did.0, did.1, acts_alone r.shape world c.args.trace.now.pass.0 c.args.act said did.0 c.in_default.not-Meet did.2)) (c.act_alone.ensures.acts world on)
 
 pub returns-in-Meet-clause-traced : goal.returns-in-Meet-clause-traced
@@ -26,5 +26,5 @@ returns-in-Meet-clause-traced g c world on =
 
 pub returns-in_default-clause-traced : goal.returns-in_default-clause-traced
 returns-in_default-clause-traced g c world on =
-    let r = reading_of g.C.Container g.G.Scripted.is_making g.G.Scripted.making c.args.container.now in
-    if_ok_more c.act_alone.result (λ said traces. traces_as _ _ _ _ traces (λ lines did. (did.0, did.1, traced_alone r g.G.Scripted.is_step world _ c.args.trace.now.pass c.args.act said lines did.0 _ c.in_default.not-Meet did.2))) (c.act_alone.ensures.traced world on refl)
+    let r = reading_of g.C.Container g.C.Stepwise c.args.container.now in
+    if_ok_more c.act_alone.result (λ said traces. traces_as _ _ _ _ traces (λ lines did. (did.0, did.1, traced_alone r g.C.Named.is_step world _ c.args.trace.now.pass c.args.act said lines did.0 _ c.in_default.not-Meet did.2))) (c.act_alone.ensures.traced world on refl)

@@ -11,7 +11,7 @@ use Rattle.player.proofs.stage.act_alone.Goals as goal
 
 pub returns-clause-acts : goal.returns-clause-acts
 returns-clause-acts g c world on =
-    let r = reading_of g.C.Container g.G.Scripted.is_making g.G.Scripted.making c.args.container.now in
+    let r = reading_of g.C.Container g.C.Stepwise c.args.container.now in
     let i = c.args.name.0 - 97 in
     let f = c.find-place.ensures.found world on in
     let a = c.in_ok-place.ensures.told f.found f.shows in
@@ -34,8 +34,8 @@ returns-clause-acts g c world on =
 
 pub returns-clause-traced : goal.returns-clause-traced
 returns-clause-traced g c world on turned =
-    let r = reading_of g.C.Container g.G.Scripted.is_making g.G.Scripted.making c.args.container.now in
-    let is_step = g.G.Scripted.is_step in
+    let r = reading_of g.C.Container g.C.Stepwise c.args.container.now in
+    let is_step = g.C.Named.is_step in
     let i = c.args.name.0 - 97 in
     let f = c.find-place.ensures.found world on in
     let a = c.in_ok-place.ensures.told f.found f.shows in

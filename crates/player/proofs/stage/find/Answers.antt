@@ -8,7 +8,7 @@ use Rattle.player.proofs.stage.find.Goals as goal
 
 pub returns-in-Some-clause-found : goal.returns-in-Some-clause-found
 returns-in-Some-clause-found g c world on =
-    let r = reading_of g.C.Container g.G.Scripted.is_making g.G.Scripted.making c.args.container.now in
+    let r = reading_of g.C.Container g.C.Stepwise c.args.container.now in
     let i = c.args.name.0 - 97 in
     let e = c.exchange.ensures in
     let gives = c.in-Some.ensures.gives in
@@ -26,7 +26,7 @@ returns-in-Some-clause-found g c world on =
 
 pub returns-in-None-clause-found : goal.returns-in-None-clause-found
 returns-in-None-clause-found g c world on =
-    let r = reading_of g.C.Container g.G.Scripted.is_making g.G.Scripted.making c.args.container.now in
+    let r = reading_of g.C.Container g.C.Stepwise c.args.container.now in
     let i = c.args.name.0 - 97 in
     let e = c.exchange.ensures in
     let gives = c.in-None.ensures.gives in
@@ -44,7 +44,7 @@ returns-in-None-clause-found g c world on =
 
 pub returns-in_default-clause-found : goal.returns-in_default-clause-found
 returns-in_default-clause-found g c world on =
-    let r = reading_of g.C.Container g.G.Scripted.is_making g.G.Scripted.making c.args.container.now in
+    let r = reading_of g.C.Container g.C.Stepwise c.args.container.now in
     let i = c.args.name.0 - 97 in
     let e = c.exchange.ensures in
     let at : Shows r c.exchange.result (named world c.args.name.0) = shows_at r _ _ i c.exchange.result on.names e.within e.was in

@@ -1,6 +1,6 @@
 use Rattle.std.proofs.Common.{◌≡◌, ◌≢◌, ◌-◌, ℕ, refl, sym, subst, arith, IsTrue}
 use Rattle.std.specs.Char.{is_ascii_lowercase}
-use Rattle.player.specs.Plays.{Named, Nobody, World, Finds, named, renamed}
+use Rattle.player.specs.Plays.{Meaning, Nobody, World, Finds, named, renamed}
 use Rattle.player.specs.Shows.{ShowsAll, reading_of}
 use Rattle.std.proofs.Common.{◌∙◌, slice_set, slice_index_or}
 use Rattle.std.proofs.lemmas.List.{get_or-set_other}
@@ -14,12 +14,12 @@ apart a b low-a low-b far e = far (grind (arith, low-a, low-b, e))
 
 pub returns-in-Nobody-clause-meets : goal.returns-in-Nobody-clause-meets
 returns-in-Nobody-clause-meets g c world on =
-    let r = reading_of g.C.Container g.G.Scripted.is_making g.G.Scripted.making c.args.container.now in
+    let r = reading_of g.C.Container g.C.Stepwise c.args.container.now in
     let i = c.args.name.0 - 97 in
     let j = c.args.other.0 - 97 in
     let f = c.find-first.ensures.found world on in
     let none : f.found ≡ Nobody = is_nobody r f.found (rw c.in-Nobody.is at f.shows) in
-    let finds : Finds r.shape world.root (named world c.args.name.0) f.root Nobody = subst (λ (n : Named). Finds r.shape world.root (named world c.args.name.0) f.root n) none f.finds in
+    let finds : Finds r.shape world.root (named world c.args.name.0) f.root Nobody = subst (λ (n : Meaning). Finds r.shape world.root (named world c.args.name.0) f.root n) none f.finds in
     let next : World = record { root = f.root; names = renamed world.names c.args.name.0 Nobody } in (
       next,
       f.on,
@@ -37,7 +37,7 @@ returns-in-Nobody-clause-meets g c world on =
 
 pub returns-clause-meets : goal.returns-clause-meets
 returns-clause-meets g c world on =
-    let r = reading_of g.C.Container g.G.Scripted.is_making g.G.Scripted.making c.args.container.now in
+    let r = reading_of g.C.Container g.C.Stepwise c.args.container.now in
     let i = c.args.name.0 - 97 in
     let j = c.args.other.0 - 97 in
     let f = c.find-first.ensures.found world on in
@@ -45,7 +45,7 @@ returns-clause-meets g c world on =
     let m = c.meet_at-first.ensures.meets f.found s.found f.shows s.shows in
     let far : i ≢ j = apart c.args.name.0 c.args.other.0 c.requires.name c.requires.other.0 c.requires.other.1 in
     let some : f.found ≡ Nobody → ⊥ = is_somebody r c.find-first.result f.found f.shows c.in_default.not-Nobody in
-    let finds : Finds r.shape f.root (named world c.args.other.0) s.root s.found = subst (λ (n : Named). Finds r.shape f.root n s.root s.found) (other_named world.names i j Nobody far) s.finds in
+    let finds : Finds r.shape f.root (named world c.args.other.0) s.root s.found = subst (λ (n : Meaning). Finds r.shape f.root n s.root s.found) (other_named world.names i j Nobody far) s.finds in
     let names = renamed (renamed world.names c.args.name.0 m.0) c.args.other.0 s.found in
     let set-first = shows_set r _ _ i c.meet_at-first.result.0 m.0 s.on.names m.1 in
     let set-second = shows_set r _ _ j c.meet_at-first.result.1 s.found set-first m.2 in

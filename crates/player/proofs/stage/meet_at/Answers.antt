@@ -8,7 +8,7 @@ use Rattle.player.proofs.stage.meet_at.Goals as goal
 
 pub returns-in-Resting-Resting-clause-meets : goal.returns-in-Resting-Resting-clause-meets
 returns-in-Resting-Resting-clause-meets g c one two shows-one shows-two =
-    let r = reading_of g.C.Container g.G.Scripted.is_making g.G.Scripted.making c.args.container.now in
+    let r = reading_of g.C.Container g.C.Stepwise c.args.container.now in
     let e = c.meet-by.ensures in
     let at = c.in-Resting-Resting in
     let here : Shows r (place.Resting at.pass) one = rw at.is-0 at shows-one in
@@ -21,7 +21,7 @@ returns-in-Resting-Resting-clause-meets g c one two shows-one shows-two =
 
 pub returns-in-Resting-Acting-clause-meets : goal.returns-in-Resting-Acting-clause-meets
 returns-in-Resting-Acting-clause-meets g c one two shows-one shows-two =
-    let r = reading_of g.C.Container g.G.Scripted.is_making g.G.Scripted.making c.args.container.now in
+    let r = reading_of g.C.Container g.C.Stepwise c.args.container.now in
     let at = c.in-Resting-Acting in
     let here : Shows r (place.Resting at.pass) one = rw at.is-0 at shows-one in
     let there : Shows r (place.Acting at.begun) two = rw at.is-1 at shows-two in
@@ -32,7 +32,7 @@ returns-in-Resting-Acting-clause-meets g c one two shows-one shows-two =
 
 pub returns-in-Acting-Resting-clause-meets : goal.returns-in-Acting-Resting-clause-meets
 returns-in-Acting-Resting-clause-meets g c one two shows-one shows-two =
-    let r = reading_of g.C.Container g.G.Scripted.is_making g.G.Scripted.making c.args.container.now in
+    let r = reading_of g.C.Container g.C.Stepwise c.args.container.now in
     let at = c.in-Acting-Resting in
     let here : Shows r (place.Acting at.begun) one = rw at.is-0 at shows-one in
     let there : Shows r (place.Resting at.pass) two = rw at.is-1 at shows-two in
@@ -43,7 +43,7 @@ returns-in-Acting-Resting-clause-meets g c one two shows-one shows-two =
 
 pub returns-in-Acting-Acting-clause-meets : goal.returns-in-Acting-Acting-clause-meets
 returns-in-Acting-Acting-clause-meets g c one two shows-one shows-two =
-    let r = reading_of g.C.Container g.G.Scripted.is_making g.G.Scripted.making c.args.container.now in
+    let r = reading_of g.C.Container g.C.Stepwise c.args.container.now in
     let at = c.in-Acting-Acting in
     let here : Shows r (place.Acting at.begun) one = rw at.is-0 at shows-one in
     let there : Shows r (place.Acting at.other) two = rw at.is-1 at shows-two in

@@ -3,17 +3,17 @@ use Rattle.std.proofs.Common.{ap, refl, string_bytes}
 use Rattle.player.proofs.Tracing.{adds_as}
 use Rattle.treiber_stack.specs.Limits.{shape_at}
 use Rattle.treiber_stack.specs.Naming.{IsStep}
-use Rattle.treiber_stack.proofs.Crossing.{rest_send}
+use Rattle.treiber_stack.proofs.Crossing.{op_send, rest_send}
 use Rattle.script_replay.specs.Readings.{stack_reading}
-use Rattle.bounded.proofs.Crossing.{note_send, pass_send, root_send}
+use Rattle.running.proofs.Crossing.{note_send, pass_send, root_send}
 use Rattle.script_replay.proofs.Tracing.{played_on}
-use Rattle.script_replay.proofs.stack.play_stack.Lts.{arg-4-4, arg-4-5, arg-4-6, arg-4-7}
+use Rattle.script_replay.proofs.stack.play_stack.Lts.{arg-4-3, arg-4-4, arg-4-5, arg-4-6, arg-4-7}
 use Rattle.script_replay.proofs.stack.play_stack.Goals as goal
 
 pub play-requires : goal.play-requires
 play-requires g c κs =
     let made = c.in_ok-stack.ensures in
-    (param_send _ (arg-4-4 g.row.R g.R.laws g.R.Wait-dict κs) (search (sendable, note_send, pass_send, root_send) depth 30), (param_send _ (arg-4-5 g.row.R g.R.laws g.R.Wait-dict κs) (search (sendable, note_send, pass_send, root_send) depth 30), (param_send _ (arg-4-6 g.row.R g.R.laws g.R.Wait-dict κs) (search (sendable, note_send, pass_send, root_send) depth 30), (param_send _ (arg-4-7 g.row.R g.R.laws g.R.Wait-dict κs) (search (sendable, rest_send) depth 30), ((refl, tt), (made.1, (c.requires.each, (c.requires.allowed, c.requires.finish_last))))))))
+    (param_send _ (arg-4-3 g.row.R g.R.laws g.R.Wait-dict κs) (search (sendable, op_send) depth 30), (param_send _ (arg-4-4 g.row.R g.R.laws g.R.Wait-dict κs) (search (sendable, root_send) depth 30), (param_send _ (arg-4-5 g.row.R g.R.laws g.R.Wait-dict κs) (search (sendable, pass_send) depth 30), (param_send _ (arg-4-6 g.row.R g.R.laws g.R.Wait-dict κs) (search (sendable, note_send) depth 30), (param_send _ (arg-4-7 g.row.R g.R.laws g.R.Wait-dict κs) (search (sendable, rest_send) depth 30), ((refl, tt), (made.1, (c.requires.each, (c.requires.allowed, c.requires.finish_last)))))))))
 
 pub returns-clause-traced : goal.returns-clause-traced
 returns-clause-traced g c =

@@ -1,4 +1,4 @@
--- What a script's lines see of a container.
+-- What a fold collects, and what it tells of it.
 use Rattle.std.specs.Prelude.{◌≡◌, ℕ, List, [], ◌∷◌, ◌++◌, Result, Ok, Err}
 use Rattle.bounded_model.specs.declared.answers.TakeRefused.{TakeRefused}
 use Rattle.bounded_model.specs.declared.bulk.Folded.{Folded}

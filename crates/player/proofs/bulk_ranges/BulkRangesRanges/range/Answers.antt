@@ -1,8 +1,8 @@
 use Rattle.std.proofs.Common.{ℕ, List, Option, subst, sym, ◌∙◌}
 use Rattle.std.specs.Prelude.{IsSome}
 use Rattle.std.specs.List.{AllByRecursion}
-use Rattle.script_replay.proofs.Folding.{all_some}
-use Rattle.script_replay.proofs.stack.put_values.Goals as goal
+use Rattle.player.proofs.Folding.{all_some}
+use Rattle.player.proofs.bulk_ranges.BulkRangesRanges.range.Goals as goal
 
 pub put_range-pass-requires-clause-values : goal.put_range-pass-requires-clause-values
 put_range-pass-requires-clause-values g c =

@@ -10,7 +10,7 @@ use Rattle.bounded_model.specs.declared.answers.TakeRefused.{TakeRefused}
 use Rattle.bounded_model.specs.declared.bulk.Folded.{Folded}
 use Rattle.bounded_model.specs.declared.views.PassView.{PassView}
 use Rattle.player.specs.Plays.{FoldTold, in_direction}
-use Rattle.script_replay.specs.Calls.{AddsOne, numbered}
+use Rattle.player.specs.Folds.{AddsOne, numbered}
 
 pub all_some : (values : List (List ℕ)) → AllByRecursion (λ place. IsSome place) (map (λ value. Some value) values)
 all_some [] = tt

@@ -1,8 +1,0 @@
-use Rattle.std.proofs.Common.{Ok, ap, false}
-use Rattle.script_replay.proofs.Folding.{fold_told}
-use Rattle.treiber_stack.specs.Stack.{pass_in, shape_of}
-use Rattle.script_replay.proofs.stack.fold_down.Goals as goal
-
-pub returns-clause-gives : goal.returns-clause-gives
-returns-clause-gives g c =
-    rw c.numbered.ensures (fold_told (shape_of c.args.stack.now) false (pass_in c.args.by) (pass_in c.fold_all_atomic-pass.result.0) c.fold_all_atomic-pass.result.2 _ _ _ _ _ (ap Ok c.new.ensures) c.in_ok-values.was (λ s x t adds. adds) c.fold_all_atomic-pass.ensures.gives)
