@@ -1,16 +1,9 @@
 //! Ranges and folds of any container that has them.
-//!
-//! A proof that passes a known container for a `Bulk` would need more steps of the prover than there
-//! are. So functions over any program and any values (`put_values_of`, ..) stand between the test and
-//! those over any container.
 
 ghost use Rattle.std.specs.Prelude.{IsSome};
 ghost use Rattle.std.specs.List.{AllByRecursion as Every};
-ghost use Rattle.bounded.specs.Bounded.{IsPassAt};
 
-use bounded::{Bounded, BulkProgram, Laid, Pass};
 use bounded_model::{Bulk, Container, Folded, RangeRefused, Ranged, TakeRefused};
-use running::ListMachine;
 use std::sync::Wait;
 use tagged_index::{Limits, MAX_TAG};
 use treiber_stack::Stack;
@@ -63,78 +56,6 @@ fn folded_in_reverse<T, C: Bulk<T>, R: Wait, S, F: Fn(S, T) -> S + Drop>(
     container.fold_all_atomic_reversed(rt, by, state, f)
 }
 
-fn put_values_of<
-    T: Drop + Send,
-    L,
-    O: Drop + Send,
-    M: Laid<T, L, O> + ListMachine<T, L, O, N> + BulkProgram<Bounded<T, L, O, M, N>, T, L, O, M, N>,
-    R: Wait,
-    const N: usize,
->(
-    rt: &R,
-    container: &Bounded<T, L, O, M, N>,
-    by: Pass<T, L, M::Kept>,
-    values: &mut [Option<T>],
-) -> (Pass<T, L, M::Kept>, Result<Ranged, RangeRefused>)
-    requires pass { IsPassAt (M.machine container.now.table.shared.key) M.keeps
-        container.now.table.shared.table_id by }
-    requires values { Every (λ place. IsSome place) values.old }
-    ensures { IsPassAt (M.machine container.now.table.shared.key) M.keeps
-        container.now.table.shared.table_id result.0 }
-{
-    put_values(rt, container, by, values)
-}
-
-fn folded_of<
-    T: Drop + Send,
-    L,
-    O: Drop + Send,
-    M: Laid<T, L, O> + ListMachine<T, L, O, N> + BulkProgram<Bounded<T, L, O, M, N>, T, L, O, M, N>,
-    R: Wait,
-    S,
-    F: Fn(S, T) -> S + Drop,
-    const N: usize,
->(
-    rt: &R,
-    container: &Bounded<T, L, O, M, N>,
-    by: Pass<T, L, M::Kept>,
-    state: S,
-    f: F,
-) -> (Pass<T, L, M::Kept>, S, Result<Folded, TakeRefused>)
-    requires pass { IsPassAt (M.machine container.now.table.shared.key) M.keeps
-        container.now.table.shared.table_id by }
-    requires call { F.IsAlwaysCallable f }
-    ensures { IsPassAt (M.machine container.now.table.shared.key) M.keeps
-        container.now.table.shared.table_id result.0 }
-{
-    folded(rt, container, by, state, f)
-}
-
-fn folded_in_reverse_of<
-    T: Drop + Send,
-    L,
-    O: Drop + Send,
-    M: Laid<T, L, O> + ListMachine<T, L, O, N> + BulkProgram<Bounded<T, L, O, M, N>, T, L, O, M, N>,
-    R: Wait,
-    S,
-    F: Fn(S, T) -> S + Drop,
-    const N: usize,
->(
-    rt: &R,
-    container: &Bounded<T, L, O, M, N>,
-    by: Pass<T, L, M::Kept>,
-    state: S,
-    f: F,
-) -> (Pass<T, L, M::Kept>, S, Result<Folded, TakeRefused>)
-    requires pass { IsPassAt (M.machine container.now.table.shared.key) M.keeps
-        container.now.table.shared.table_id by }
-    requires call { F.IsAlwaysCallable f }
-    ensures { IsPassAt (M.machine container.now.table.shared.key) M.keeps
-        container.now.table.shared.table_id result.0 }
-{
-    folded_in_reverse(rt, container, by, state, f)
-}
-
 const NONE: Three = ('-', '-', '-');
 
 #[test]
@@ -144,12 +65,12 @@ fn ranges_and_folds_of_any_container(rt: HostRuntime) {
     let pass = stack.split(&mut root).expect(&rt, "a pass");
     let three = |number| Ranged { number, count: 3 };
     let mut values = [Some('a'), Some('b'), Some('c')];
-    let (pass, put) = put_values_of(&rt, &stack, pass, &mut values);
+    let (pass, put) = put_values(&rt, &stack, pass, &mut values);
     assert_eq!(rt; put, Ok(three(0)));
     let mut values = [Some('a'), Some('b'), Some('c')];
-    let (pass, put) = put_values_of(&rt, &stack, pass, &mut values);
+    let (pass, put) = put_values(&rt, &stack, pass, &mut values);
     assert_eq!(rt; put, Err(RangeRefused::Full));
-    let (pass, seen, fold) = folded_of(&rt, &stack, pass, NONE, last_three);
+    let (pass, seen, fold) = folded(&rt, &stack, pass, NONE, last_three);
     assert_eq!(rt; seen, ('c', 'b', 'a'));
     assert_eq!(rt;
         fold,
@@ -159,9 +80,9 @@ fn ranges_and_folds_of_any_container(rt: HostRuntime) {
         })
     );
     let mut values = [Some('a'), Some('b'), Some('c')];
-    let (pass, put) = put_values_of(&rt, &stack, pass, &mut values);
+    let (pass, put) = put_values(&rt, &stack, pass, &mut values);
     assert_eq!(rt; put, Ok(three(2)));
-    let (pass, seen, fold) = folded_in_reverse_of(&rt, &stack, pass, NONE, last_three);
+    let (pass, seen, fold) = folded_in_reverse(&rt, &stack, pass, NONE, last_three);
     assert_eq!(rt; seen, ('a', 'b', 'c'));
     assert_eq!(rt;
         fold,
@@ -170,7 +91,7 @@ fn ranges_and_folds_of_any_container(rt: HostRuntime) {
             count: 3
         })
     );
-    let (_, seen, fold) = folded_of(&rt, &stack, pass, NONE, last_three);
+    let (_, seen, fold) = folded(&rt, &stack, pass, NONE, last_three);
     assert_eq!(rt; seen, NONE);
     assert_eq!(rt; fold, Err(TakeRefused::Empty));
 }

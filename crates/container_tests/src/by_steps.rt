@@ -1,11 +1,8 @@
 ghost use Rattle.std.specs.Prelude.{IfSome};
 ghost use Rattle.bounded_model.specs.Calls.{CallGives};
-ghost use Rattle.bounded.specs.Bounded.{IsPassAt, pass_in};
 
-use bounded::{Bounded, Laid, Pass, Steps};
 use bounded_model::{Command, Container, PutRefused, Reply, Stepped, Stepwise, TakeRefused};
 use ring_queue::{RingLimits, RingQueue};
-use running::ListMachine;
 use tagged_index::{Limits, MAX_TAG};
 use treiber_stack::Stack;
 
@@ -33,42 +30,18 @@ fn call_by_steps<C: Stepwise<u32>>(
     None
 }
 
-/// The same, for a container of any program. A test calls it in place of `call_by_steps`: a proof
-/// that passes a known container for a `Stepwise` would need more steps of the prover than there
-/// are.
-fn steps_of<
-    L,
-    O: Drop + Send,
-    M: Laid<u32, L, O>
-        + ListMachine<u32, L, O, N>
-        + Steps<Bounded<u32, L, O, M, N>, u32, L, O, M, N>,
-    const N: usize,
->(
-    container: &Bounded<u32, L, O, M, N>,
-    by: Pass<u32, L, M::Kept>,
-    command: Command<u32>,
-) -> Option<(Pass<u32, L, M::Kept>, Reply<u32>, u64)>
-    requires { IsPassAt (M.machine container.now.table.shared.key) M.keeps
-        container.now.table.shared.table_id by }
-    ensures { IfSome result (λ r. IsPassAt (M.machine container.now.table.shared.key) M.keeps
-        container.now.table.shared.table_id r.0
-        × CallGives (M.machine container.now.table.shared.key).core.shape (pass_in by) command (pass_in r.0) r.1) }
-{
-    call_by_steps(container, by, command)
-}
-
 #[test]
 fn steps_of_any_container_are_counted(rt: HostRuntime) {
     let limits = Limits::of(1, MAX_TAG).expect(&rt, "limits");
     let (stack, mut root) = Stack::<u32>::new(rt.alloc(), limits).expect(&rt, "memory");
     let pass = stack.split(&mut root).expect(&rt, "a pass");
-    let (pass, reply, steps) = steps_of(&stack, pass, Command::Put(7)).expect(&rt, "a put");
+    let (pass, reply, steps) = call_by_steps(&stack, pass, Command::Put(7)).expect(&rt, "a put");
     assert_eq!(rt; (reply, steps), (Reply::Put(Ok(0)), 6));
-    let (pass, reply, steps) = steps_of(&stack, pass, Command::Put(8)).expect(&rt, "a put");
+    let (pass, reply, steps) = call_by_steps(&stack, pass, Command::Put(8)).expect(&rt, "a put");
     assert_eq!(rt; (reply, steps), (Reply::Put(Err(PutRefused::Full(8))), 2));
-    let (pass, reply, steps) = steps_of(&stack, pass, Command::Take).expect(&rt, "a take");
+    let (pass, reply, steps) = call_by_steps(&stack, pass, Command::Take).expect(&rt, "a take");
     assert_eq!(rt; (reply, steps), (Reply::Take(Ok((7, 1))), 6));
-    let (_, reply, steps) = steps_of(&stack, pass, Command::Take).expect(&rt, "a take");
+    let (_, reply, steps) = call_by_steps(&stack, pass, Command::Take).expect(&rt, "a take");
     assert_eq!(rt; (reply, steps), (Reply::Take(Err(TakeRefused::Empty)), 1));
 }
 
@@ -79,13 +52,13 @@ fn steps_of_a_ring_are_counted(rt: HostRuntime) {
     let limits = RingLimits::of(1, 9, 2).expect(&rt, "limits");
     let (ring, mut root) = RingQueue::<u32>::new(rt.alloc(), limits).expect(&rt, "memory");
     let pass = ring.split(&mut root).expect(&rt, "a pass");
-    let (pass, reply, steps) = steps_of(&ring, pass, Command::Put(7)).expect(&rt, "a put");
+    let (pass, reply, steps) = call_by_steps(&ring, pass, Command::Put(7)).expect(&rt, "a put");
     assert_eq!(rt; (reply, steps), (Reply::Put(Ok(0)), 3));
-    let (pass, reply, steps) = steps_of(&ring, pass, Command::Put(8)).expect(&rt, "a put");
+    let (pass, reply, steps) = call_by_steps(&ring, pass, Command::Put(8)).expect(&rt, "a put");
     assert_eq!(rt; (reply, steps), (Reply::Put(Err(PutRefused::Full(8))), 4));
-    let (pass, reply, steps) = steps_of(&ring, pass, Command::Take).expect(&rt, "a take");
+    let (pass, reply, steps) = call_by_steps(&ring, pass, Command::Take).expect(&rt, "a take");
     assert_eq!(rt; (reply, steps), (Reply::Take(Ok((7, 0))), 4));
-    let (_, reply, steps) = steps_of(&ring, pass, Command::Take).expect(&rt, "a take");
+    let (_, reply, steps) = call_by_steps(&ring, pass, Command::Take).expect(&rt, "a take");
     assert_eq!(rt; (reply, steps), (Reply::Take(Err(TakeRefused::Empty)), 3));
 }
 
@@ -94,10 +67,10 @@ fn a_close_a_shut_and_a_look_make_their_steps(rt: HostRuntime) {
     let limits = Limits::of(1, MAX_TAG).expect(&rt, "limits");
     let (stack, mut root) = Stack::<u32>::new(rt.alloc(), limits).expect(&rt, "memory");
     let pass = stack.split(&mut root).expect(&rt, "a pass");
-    let (pass, reply, steps) = steps_of(&stack, pass, Command::Look).expect(&rt, "a look");
+    let (pass, reply, steps) = call_by_steps(&stack, pass, Command::Look).expect(&rt, "a look");
     assert_eq!(rt; (reply, steps), (Reply::Look(true), 1));
-    let (pass, reply, steps) = steps_of(&stack, pass, Command::Close).expect(&rt, "a close");
+    let (pass, reply, steps) = call_by_steps(&stack, pass, Command::Close).expect(&rt, "a close");
     assert_eq!(rt; (reply, steps), (Reply::Close(true), 2));
-    let (_, reply, steps) = steps_of(&stack, pass, Command::Shut).expect(&rt, "a shut");
+    let (_, reply, steps) = call_by_steps(&stack, pass, Command::Shut).expect(&rt, "a shut");
     assert_eq!(rt; (reply, steps), (Reply::Shut(true), 2));
 }

@@ -1,15 +1,9 @@
 //! Calls by single steps: how many a put and a take make, and what becomes of the values of a call
 //! that is dropped between two steps.
-//!
-//! The tests call functions over any program. A proof that passes a known container for a `Stepwise`
-//! would need more steps of the prover than there are.
 
 ghost use Rattle.bounded_model.specs.declared.commands.Command.{Command};
-ghost use Rattle.bounded.specs.Bounded.{IsRootAt};
 
-use bounded::{Bounded, Laid, Root, Steps};
 use bounded_model::{Command, Container, Order, Reply, Stepped, Stepwise};
-use running::ListMachine;
 use std::alloc::Global;
 use std::process::Abort;
 use std::sync::{Arc, Wait};
@@ -54,17 +48,13 @@ fn continued<T: Drop, C: Stepwise<T>, R: Abort>(
 }
 
 /// A put and a take end at their last step, and not before.
-pub(crate) fn ended_at_their_last<
-    L,
-    O: Drop + Send,
-    M: Laid<u32, L, O>
-        + ListMachine<u32, L, O, N>
-        + Steps<Bounded<u32, L, O, M, N>, u32, L, O, M, N>,
-    R: Abort,
-    const N: usize,
->(rt: &R, container: Bounded<u32, L, O, M, N>, root: Root<u32, L, M::Stock>, steps: StepCounts)
-    requires { IsRootAt (M.machine container.table.shared.key) (M.stocks container.table.shared.key)
-        container.table.shared.table_id root }
+pub(crate) fn ended_at_their_last<C: Stepwise<u32>, R: Abort>(
+    rt: &R,
+    container: C,
+    root: C::Root,
+    steps: StepCounts,
+)
+    requires { C.is_root container root }
 {
     let mut root = root;
     let pass = container.split(&mut root).expect(rt, "a pass");
@@ -78,7 +68,7 @@ pub(crate) fn ended_at_their_last<
     let Stepped::Done(_, Reply::Take(Ok(taken))) = container.step(take) else {
         panic!(rt; "the take ended late")
     };
-    let number = match M::ORDER {
+    let number = match C::ORDER {
         Order::Fifo => 0,
         Order::Lifo => 1,
     };
@@ -86,24 +76,15 @@ pub(crate) fn ended_at_their_last<
 }
 
 /// Drops a put after `made` steps.
-pub(crate) fn dropped_put<
-    L,
-    O: Drop + Send,
-    M: Laid<Arc<u8>, L, O>
-        + ListMachine<Arc<u8>, L, O, N>
-        + Steps<Bounded<Arc<u8>, L, O, M, N>, Arc<u8>, L, O, M, N>,
-    R: Abort,
-    const N: usize,
->(
+pub(crate) fn dropped_put<C: Stepwise<Arc<u8>>, R: Abort>(
     rt: &R,
     alloc: Global,
-    container: Bounded<Arc<u8>, L, O, M, N>,
-    root: Root<Arc<u8>, L, M::Stock>,
+    container: C,
+    root: C::Root,
     steps: StepCounts,
     made: u32,
 )
-    requires { IsRootAt (M.machine container.table.shared.key) (M.stocks container.table.shared.key)
-        container.table.shared.table_id root }
+    requires { C.is_root container root }
 {
     let value = Arc::new(alloc, 7u8).expect(rt, "memory");
     let mut root = root;
@@ -119,24 +100,15 @@ pub(crate) fn dropped_put<
 }
 
 /// Drops a take after `made` steps.
-pub(crate) fn dropped_take<
-    L,
-    O: Drop + Send,
-    M: Laid<Arc<u8>, L, O>
-        + ListMachine<Arc<u8>, L, O, N>
-        + Steps<Bounded<Arc<u8>, L, O, M, N>, Arc<u8>, L, O, M, N>,
-    R: Abort + Wait,
-    const N: usize,
->(
+pub(crate) fn dropped_take<C: Stepwise<Arc<u8>>, R: Abort + Wait>(
     rt: &R,
     alloc: Global,
-    container: Bounded<Arc<u8>, L, O, M, N>,
-    root: Root<Arc<u8>, L, M::Stock>,
+    container: C,
+    root: C::Root,
     steps: StepCounts,
     made: u32,
 )
-    requires { IsRootAt (M.machine container.table.shared.key) (M.stocks container.table.shared.key)
-        container.table.shared.table_id root }
+    requires { C.is_root container root }
 {
     let value = Arc::new(alloc, 7u8).expect(rt, "memory");
     let mut root = root;
@@ -152,24 +124,15 @@ pub(crate) fn dropped_take<
 }
 
 /// Drops a put that a close overtakes, `made` steps after the close.
-pub(crate) fn dropped_late_put<
-    L,
-    O: Drop + Send,
-    M: Laid<Arc<u8>, L, O>
-        + ListMachine<Arc<u8>, L, O, N>
-        + Steps<Bounded<Arc<u8>, L, O, M, N>, Arc<u8>, L, O, M, N>,
-    R: Abort + Wait,
-    const N: usize,
->(
+pub(crate) fn dropped_late_put<C: Stepwise<Arc<u8>>, R: Abort + Wait>(
     rt: &R,
     alloc: Global,
-    container: Bounded<Arc<u8>, L, O, M, N>,
-    root: Root<Arc<u8>, L, M::Stock>,
+    container: C,
+    root: C::Root,
     steps: StepCounts,
     made: u32,
 )
-    requires { IsRootAt (M.machine container.table.shared.key) (M.stocks container.table.shared.key)
-        container.table.shared.table_id root }
+    requires { C.is_root container root }
 {
     let value = Arc::new(alloc, 7u8).expect(rt, "memory");
     let mut root = root;

@@ -11,7 +11,7 @@ use std::process::ExitCode;
 use std::sync::Wait;
 use tagged_index::{Limits, MAX_TAG};
 use thiserror::Error;
-use treiber_stack::{Pass, Stack, is_empty, read_gauge};
+use treiber_stack::{Pass, Stack};
 
 /// No put makes this many steps if its pass is the only one.
 const ENOUGH: u64 = 16;
@@ -71,10 +71,7 @@ fn put_by_steps(
     for count in 1..=ENOUGH {
         match op.step(stack) {
             Stepped::Again(next) => op = next,
-            Stepped::Done(pass, answered) => {
-                let kept = answered.kept;
-                return Some((Pass { pass, kept }, answered.reply, count));
-            }
+            Stepped::Done(pass, answer) => return Some((pass, answer, count)),
         }
     }
     None
@@ -111,8 +108,8 @@ fn calls<R: AllocGlobal + Print + Wait>(rt: &R) -> Result<(), Fault> {
     let (first, shut) = stack.shut(rt, first);
     let (first, again) = stack.shut(rt, first);
     let (second, refused) = stack.take(rt, second);
-    let (first, empty) = is_empty(&stack, first);
-    let (first, gauge) = read_gauge(&stack, first);
+    let (first, empty) = stack.is_empty(first);
+    let (first, gauge) = stack.gauge(first);
     println!(rt; "consumed {taken:?}, shut {shut} {again}, take {refused:?}, empty {empty}")?;
     println!(rt; "{gauge:?}")?;
     stack.join(&mut root, first);

@@ -17,14 +17,14 @@ fn a_put_ends_at_its_14th_step_and_a_take_at_its_12th(rt: HostRuntime) {
     let Stepped::Done(_, put) = put.step(&queue) else {
         panic!(rt; "the put ended late")
     };
-    assert_eq!(rt; put.reply, Ok(0));
+    assert_eq!(rt; put, Ok(0));
     let Stepped::Again(take) = queue.begin_take(taker).run_for(&queue, 11) else {
         panic!(rt; "the take ended early")
     };
     let Stepped::Done(_, take) = take.step(&queue) else {
         panic!(rt; "the take ended late")
     };
-    assert_eq!(rt; take.reply, Ok((7, 0)));
+    assert_eq!(rt; take, Ok((7, 0)));
 }
 
 #[test]
@@ -52,5 +52,5 @@ fn a_close_ends_at_its_4th_step_a_shut_at_its_2nd_and_a_look_at_its_3rd(rt: Host
     let Stepped::Done(_, look) = look.step(&queue) else {
         panic!(rt; "the look ended late")
     };
-    assert_eq!(rt; (close.reply, shut.reply, look.reply), (true, true, true));
+    assert_eq!(rt; (close, shut, look), (true, true, true));
 }

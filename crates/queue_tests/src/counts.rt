@@ -7,7 +7,7 @@ ghost use Rattle.ms_queue.specs.Queue.{IsPassOf};
 ghost use Rattle.ms_queue.specs.Taking.{IsTaking};
 
 use bounded_model::{Container, Stepped};
-use ms_queue::{LenOp, Pass, PutOp, Queue, TakeOp, begin_len, len};
+use ms_queue::{LenOp, Pass, PutOp, Queue, TakeOp};
 use std::alloc::Global;
 use std::process::Abort;
 use std::sync::Wait;
@@ -91,7 +91,7 @@ fn counted_beside_a_put<R: Abort>(rt: &R, alloc: Global, schedule: Schedule) {
     let [first, second, third, fourth] = schedule;
     let (queue, putter, counter) = queue_of(rt, alloc, 1);
     let put = go_on_putting(rt, &queue, queue.begin_put(putter, 7), first);
-    let count = go_on_counting(rt, &queue, begin_len(&queue, counter), 1);
+    let count = go_on_counting(rt, &queue, queue.begin_len(counter), 1);
     let put = go_on_putting(rt, &queue, put, second.saturating_sub(first));
     let count = go_on_counting(rt, &queue, count, 1);
     let put = go_on_putting(rt, &queue, put, third.saturating_sub(second));
@@ -101,7 +101,7 @@ fn counted_beside_a_put<R: Abort>(rt: &R, alloc: Global, schedule: Schedule) {
         panic!(rt; "the count ended late")
     };
     let held = if third < PUT_AT { 0 } else { 1 };
-    assert_eq!(rt; found.reply, held);
+    assert_eq!(rt; found, held);
 }
 
 // Counts in this schedule beside a take of the only value. If the take gets it between the first
@@ -112,7 +112,7 @@ fn counted_beside_a_take<R: Abort + Wait>(rt: &R, alloc: Global, schedule: Sched
     let (taker, put) = queue.put(rt, taker, 7);
     assert!(rt; put.is_ok());
     let take = go_on_taking(rt, &queue, queue.begin_take(taker), first);
-    let count = go_on_counting(rt, &queue, begin_len(&queue, counter), 1);
+    let count = go_on_counting(rt, &queue, queue.begin_len(counter), 1);
     let take = go_on_taking(rt, &queue, take, second.saturating_sub(first));
     let count = go_on_counting(rt, &queue, count, 1);
     let take = go_on_taking(rt, &queue, take, third.saturating_sub(second));
@@ -128,7 +128,7 @@ fn counted_beside_a_take<R: Abort + Wait>(rt: &R, alloc: Global, schedule: Sched
         panic!(rt; "the count ended late")
     };
     let held = if fourth < TAKEN_AT { 1 } else { 0 };
-    assert_eq!(rt; found.reply, held);
+    assert_eq!(rt; found, held);
 }
 
 #[test]
@@ -187,7 +187,7 @@ fn greatest<R: Wait>(rt: &R, queue: &Queue<u32>, by: Pass<u32>, times: u32) -> (
     let mut pass = by;
     let mut most = 0;
     for _ in 0..times {
-        let (back, found) = len(queue, rt, pass);
+        let (back, found) = queue.len(rt, pass);
         pass = back;
         most = most.max(found);
     }
@@ -246,10 +246,10 @@ fn counts_beside_threads_are_within_the_capacity(rt: HostRuntime) {
     let counter = queue.split(&mut root).expect(&rt, "a pass");
     let (counter, most) = greatest_beside_threads(&rt, &queue, putter, taker, counter);
     assert!(rt; most <= 3);
-    let (counter, found) = len(&queue, &rt, counter);
+    let (counter, found) = queue.len(&rt, counter);
     assert_eq!(rt; found, 0);
     let (counter, put) = queue.put(&rt, counter, 7);
     assert!(rt; put.is_ok());
-    let (_, found) = len(&queue, &rt, counter);
+    let (_, found) = queue.len(&rt, counter);
     assert_eq!(rt; found, 1);
 }

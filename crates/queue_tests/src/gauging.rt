@@ -3,7 +3,7 @@
 ghost use Rattle.ms_queue.specs.Gauging.{IsGauging};
 
 use bounded_model::{Container, Stepped};
-use ms_queue::{Gauge, GaugeOp, Queue, begin_gauge, read_gauge};
+use ms_queue::{Gauge, GaugeOp, Queue};
 use std::process::Abort;
 use tagged_index::{Limits, MAX_TAG};
 
@@ -33,7 +33,7 @@ fn a_gauge_counts_what_was_put(rt: HostRuntime) {
     let (queue, mut root) = Queue::<u32>::new(rt.alloc(), limits).expect(&rt, "memory");
     let pass = queue.split(&mut root).expect(&rt, "a pass");
     let other = queue.split(&mut root).expect(&rt, "a pass");
-    let (pass, gauge) = read_gauge(&queue, &rt, pass);
+    let (pass, gauge) = queue.gauge(&rt, pass);
     assert_eq!(rt;
         gauge,
         Gauge {
@@ -45,7 +45,7 @@ fn a_gauge_counts_what_was_put(rt: HostRuntime) {
     assert!(rt; put.is_ok());
     let (pass, taken) = queue.take(&rt, pass);
     assert!(rt; taken.is_ok());
-    let op = go_on(&rt, &queue, begin_gauge(&queue, other), GAUGE_STEPS - 1);
+    let op = go_on(&rt, &queue, queue.begin_gauge(other), GAUGE_STEPS - 1);
     let (pass, put) = queue.put(&rt, pass, 8);
     assert!(rt; put.is_ok());
     let op = go_on(&rt, &queue, op, GAUGE_STEPS);
@@ -53,7 +53,7 @@ fn a_gauge_counts_what_was_put(rt: HostRuntime) {
         panic!(rt; "the gauge did not end")
     };
     assert_eq!(rt;
-        gauge.reply,
+        gauge,
         Gauge {
             closed: false,
             used: 2
@@ -61,7 +61,7 @@ fn a_gauge_counts_what_was_put(rt: HostRuntime) {
     );
     let (pass, closed) = queue.close(&rt, pass);
     assert!(rt; closed);
-    let (_, gauge) = read_gauge(&queue, &rt, pass);
+    let (_, gauge) = queue.gauge(&rt, pass);
     assert_eq!(rt;
         gauge,
         Gauge {

@@ -7,7 +7,7 @@ ghost use Rattle.ring_tests.specs.Doing.{IsDoing};
 
 use crate::plain::{Asked, Reply};
 use bounded_model::{Command, Stepped, Stepwise};
-use ring_queue::{AnyOp, LenOp, Pass, RingQueue, begin_len};
+use ring_queue::{AnyOp, LenOp, Pass, RingQueue};
 
 /// A pass between its calls, or its call under way.
 #[derive(Drop)]
@@ -28,7 +28,7 @@ pub(crate) fn begun(ring: &RingQueue<u64>, pass: Pass<u64>, asked: Asked) -> Doi
         Asked::Close => Command::Close,
         Asked::Shut => Command::Shut,
         Asked::Look => Command::Look,
-        Asked::Count => return Doing::Counts(begin_len(ring, pass)),
+        Asked::Count => return Doing::Counts(ring.begin_len(pass)),
     };
     Doing::Calls(ring.begin(pass, command))
 }
@@ -61,11 +61,5 @@ pub(crate) fn count_on(
     ensures { MatchStepped result (λ next. IsCounting ring.now next)
         (λ back count. IsPassOf ring.now back) }
 {
-    match op.run_for(ring, steps) {
-        Stepped::Again(next) => Stepped::Again(next),
-        Stepped::Done(pass, answered) => {
-            let kept = answered.kept;
-            Stepped::Done(Pass { pass, kept }, answered.reply)
-        }
-    }
+    op.run_for(ring, steps)
 }

@@ -4,7 +4,6 @@
 use crate::calls::{call_for, call_to_the_end, count_for, count_to_the_end};
 use crate::stopped::{LAGS, go_through, ring_after, steps_before, three_laps};
 use bounded_model::{Command, Container, Reply};
-use ring_queue::begin_len;
 use std::alloc::Global;
 use std::process::Abort;
 use std::sync::Wait;
@@ -22,7 +21,7 @@ fn look_stops<R: Abort + Wait>(rt: &R, alloc: Global, capacity: u32, lag: u64, m
 // One that stops before its second look at the front begins again.
 fn count_stops<R: Abort + Wait>(rt: &R, alloc: Global, capacity: u32, lag: u64, made: u64) {
     let (ring, pass, other) = ring_after(rt, alloc, capacity, lag);
-    let count = count_for(rt, &ring, begin_len(&ring, pass), made);
+    let count = count_for(rt, &ring, ring.begin_len(pass), made);
     let other = go_through(rt, &ring, other, lag, three_laps(capacity));
     let (_, put) = ring.put(rt, other, 1_000);
     assert!(rt; put.is_ok());

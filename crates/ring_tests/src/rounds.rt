@@ -3,7 +3,7 @@
 ghost use Rattle.ring_queue.specs.Ring.{IsPassOf};
 
 use bounded_model::{Container, PutRefused, Stepwise, TakeRefused, Word};
-use ring_queue::{Pass, RingLimits, RingQueue, len, read_gauge};
+use ring_queue::{Pass, RingLimits, RingQueue};
 use std::alloc::Global;
 use std::process::Abort;
 use std::sync::Wait;
@@ -93,7 +93,7 @@ fn a_ring_is_spent_after_its_laps(rt: HostRuntime) {
             assert!(rt; put == Err(PutRefused::Spent(7, Word::Next(0), tag)));
             let (pass, taken) = ring.take(&rt, pass);
             assert!(rt; taken == Err(TakeRefused::Empty));
-            let (_, gauge) = read_gauge(&ring, &rt, pass);
+            let (_, gauge) = ring.gauge(&rt, pass);
             assert!(rt; !gauge.closed && gauge.used == count);
         }
     }
@@ -105,9 +105,9 @@ fn closed_with<R: Abort + Wait>(rt: &R, alloc: Global, capacity: u32, through: u
     let pass = pass_through(rt, &ring, pass, through);
     let last = through.saturating_add(there);
     let pass = put_all(rt, &ring, pass, through, last);
-    let (pass, count) = len(&ring, rt, pass);
+    let (pass, count) = ring.len(rt, pass);
     assert!(rt; u64::from(count) == there);
-    let (pass, gauge) = read_gauge(&ring, rt, pass);
+    let (pass, gauge) = ring.gauge(rt, pass);
     assert!(rt; !gauge.closed && gauge.used == last);
     let (pass, closed) = ring.close(rt, pass);
     assert!(rt; closed);
@@ -118,7 +118,7 @@ fn closed_with<R: Abort + Wait>(rt: &R, alloc: Global, capacity: u32, through: u
     let pass = take_all(rt, &ring, pass, through, last);
     let (pass, taken) = ring.take(rt, pass);
     assert!(rt; taken == Err(TakeRefused::Closed));
-    let (_, gauge) = read_gauge(&ring, rt, pass);
+    let (_, gauge) = ring.gauge(rt, pass);
     assert!(rt; gauge.closed && gauge.used == last);
 }
 
@@ -143,7 +143,7 @@ fn shut_with<R: Abort + Wait>(rt: &R, alloc: Global, capacity: u32, through: u64
     assert!(rt; put == Err(PutRefused::Closed(7)));
     let (pass, taken) = ring.take(rt, pass);
     assert!(rt; taken == Err(TakeRefused::Shut));
-    let (_, count) = len(&ring, rt, pass);
+    let (_, count) = ring.len(rt, pass);
     assert!(rt; count == capacity);
 }
 

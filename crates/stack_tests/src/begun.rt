@@ -17,14 +17,14 @@ fn a_put_and_a_take_end_at_their_6th_step(rt: HostRuntime) {
     let Stepped::Done(_, put) = put.step(&stack) else {
         panic!(rt; "the put ended late")
     };
-    assert_eq!(rt; put.reply, Ok(0));
+    assert_eq!(rt; put, Ok(0));
     let Stepped::Again(take) = stack.begin_take(taker).run_for(&stack, 5) else {
         panic!(rt; "the take ended early")
     };
     let Stepped::Done(_, take) = take.step(&stack) else {
         panic!(rt; "the take ended late")
     };
-    assert_eq!(rt; take.reply, Ok((7, 1)));
+    assert_eq!(rt; take, Ok((7, 1)));
 }
 
 #[test]
@@ -49,5 +49,5 @@ fn a_close_and_a_shut_end_at_their_2nd_step_and_a_look_at_its_1st(rt: HostRuntim
     let Stepped::Done(_, look) = stack.begin_look(looker).step(&stack) else {
         panic!(rt; "the look ended late")
     };
-    assert_eq!(rt; (close.reply, shut.reply, look.reply), (true, true, true));
+    assert_eq!(rt; (close, shut, look), (true, true, true));
 }

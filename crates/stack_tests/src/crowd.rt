@@ -8,7 +8,7 @@ use std::sync::Wait;
 use std::sync::atomic::{AtomicU64, Ordering};
 use std::thread;
 use tagged_index::{Limits, MAX_TAG};
-use treiber_stack::{Pass, Stack, fold_all_atomic, put_range};
+use treiber_stack::{Pass, Stack};
 use waiting::{put_waiting, take_all_until_closed, take_waiting};
 
 /// How many ranges of three values each of the two putting threads puts.
@@ -65,7 +65,7 @@ fn put_three<R: Wait>(rt: &R, stack: &Stack<u64>, by: Pass<u64>, first: u64) -> 
         Some(first.saturating_add(1)),
         Some(first.saturating_add(2)),
     ];
-    let (back, answer) = put_range(stack, rt, by, &mut values);
+    let (back, answer) = stack.put_range(rt, by, &mut values);
     let mut pass = back;
     if answer.is_err() {
         thread::yield_now();
@@ -112,7 +112,7 @@ fn fold_each<R: Wait>(rt: &R, stack: &Stack<u64>, by: Pass<u64>, tally: &Tally)
             tally.count(value);
             seen.wrapping_add(1)
         };
-        let (back, _, _) = fold_all_atomic(stack, rt, back, 0u64, count);
+        let (back, _, _) = stack.fold_all_atomic(rt, back, 0u64, count);
         pass = back;
     }
 }

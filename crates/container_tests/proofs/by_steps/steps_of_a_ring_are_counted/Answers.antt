@@ -2,26 +2,26 @@ use denote.Param.Send.{sendable}
 use Rattle.ring_queue.proofs.Crossing.{rest_send, op_send}
 use Rattle.container_tests.proofs.by_steps.steps_of_a_ring_are_counted.Goals as goal
 
-pub steps_of-requires-send-M-Op : goal.steps_of-requires-send-M-Op
-steps_of-requires-send-M-Op g c κs = search (sendable, op_send) depth 30
+pub call_by_steps-requires-send-C-Op : goal.call_by_steps-requires-send-C-Op
+call_by_steps-requires-send-C-Op g c κs = search (sendable, op_send) depth 30
 
-pub steps_of-requires-send-M-Rest : goal.steps_of-requires-send-M-Rest
-steps_of-requires-send-M-Rest g c κs = search (sendable, rest_send) depth 30
+pub call_by_steps-requires-send-C-Rest : goal.call_by_steps-requires-send-C-Rest
+call_by_steps-requires-send-C-Rest g c κs = search (sendable, rest_send) depth 30
 
-pub steps_of-requires-2-send-M-Op : goal.steps_of-requires-2-send-M-Op
-steps_of-requires-2-send-M-Op g c κs = search (sendable, op_send) depth 30
+pub call_by_steps-requires-2-send-C-Op : goal.call_by_steps-requires-2-send-C-Op
+call_by_steps-requires-2-send-C-Op g c κs = search (sendable, op_send) depth 30
 
-pub steps_of-requires-2-send-M-Rest : goal.steps_of-requires-2-send-M-Rest
-steps_of-requires-2-send-M-Rest g c κs = search (sendable, rest_send) depth 30
+pub call_by_steps-requires-2-send-C-Rest : goal.call_by_steps-requires-2-send-C-Rest
+call_by_steps-requires-2-send-C-Rest g c κs = search (sendable, rest_send) depth 30
 
-pub steps_of-requires-3-send-M-Op : goal.steps_of-requires-3-send-M-Op
-steps_of-requires-3-send-M-Op g c κs = search (sendable, op_send) depth 30
+pub call_by_steps-requires-3-send-C-Op : goal.call_by_steps-requires-3-send-C-Op
+call_by_steps-requires-3-send-C-Op g c κs = search (sendable, op_send) depth 30
 
-pub steps_of-requires-3-send-M-Rest : goal.steps_of-requires-3-send-M-Rest
-steps_of-requires-3-send-M-Rest g c κs = search (sendable, rest_send) depth 30
+pub call_by_steps-requires-3-send-C-Rest : goal.call_by_steps-requires-3-send-C-Rest
+call_by_steps-requires-3-send-C-Rest g c κs = search (sendable, rest_send) depth 30
 
-pub steps_of-requires-4-send-M-Op : goal.steps_of-requires-4-send-M-Op
-steps_of-requires-4-send-M-Op g c κs = search (sendable, op_send) depth 30
+pub call_by_steps-requires-4-send-C-Op : goal.call_by_steps-requires-4-send-C-Op
+call_by_steps-requires-4-send-C-Op g c κs = search (sendable, op_send) depth 30
 
-pub steps_of-requires-4-send-M-Rest : goal.steps_of-requires-4-send-M-Rest
-steps_of-requires-4-send-M-Rest g c κs = search (sendable, rest_send) depth 30
+pub call_by_steps-requires-4-send-C-Rest : goal.call_by_steps-requires-4-send-C-Rest
+call_by_steps-requires-4-send-C-Rest g c κs = search (sendable, rest_send) depth 30

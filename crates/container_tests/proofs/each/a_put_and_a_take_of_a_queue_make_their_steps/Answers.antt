@@ -5,8 +5,8 @@ use Rattle.container_tests.proofs.each.a_put_and_a_take_of_a_queue_make_their_st
 pub with_room-queue-requires-send-C-Rest : goal.with_room-queue-requires-send-C-Rest
 with_room-queue-requires-send-C-Rest g c κs = search (sendable, rest_send) depth 30
 
-pub ended_at_their_last-requires-send-M-Op : goal.ended_at_their_last-requires-send-M-Op
-ended_at_their_last-requires-send-M-Op g c κs = search (sendable, op_send) depth 30
+pub ended_at_their_last-requires-send-C-Op : goal.ended_at_their_last-requires-send-C-Op
+ended_at_their_last-requires-send-C-Op g c κs = search (sendable, op_send) depth 30
 
-pub ended_at_their_last-requires-send-M-Rest : goal.ended_at_their_last-requires-send-M-Rest
-ended_at_their_last-requires-send-M-Rest g c κs = search (sendable, rest_send) depth 30
+pub ended_at_their_last-requires-send-C-Rest : goal.ended_at_their_last-requires-send-C-Rest
+ended_at_their_last-requires-send-C-Rest g c κs = search (sendable, rest_send) depth 30

@@ -6,26 +6,26 @@ use Rattle.container_tests.proofs.each.values_of_dropped_calls_of_a_ring_are_dro
 pub with_room-container-requires-send-C-Rest : goal.with_room-container-requires-send-C-Rest
 with_room-container-requires-send-C-Rest g c κs = search (sendable, rest_send, Arc-send) depth 30
 
-pub dropped_put-requires-send-M-Op : goal.dropped_put-requires-send-M-Op
-dropped_put-requires-send-M-Op g c κs = search (sendable, op_send, Arc-send) depth 30
+pub dropped_put-requires-send-C-Op : goal.dropped_put-requires-send-C-Op
+dropped_put-requires-send-C-Op g c κs = search (sendable, op_send, Arc-send) depth 30
 
-pub dropped_put-requires-send-M-Rest : goal.dropped_put-requires-send-M-Rest
-dropped_put-requires-send-M-Rest g c κs = search (sendable, rest_send, Arc-send) depth 30
+pub dropped_put-requires-send-C-Rest : goal.dropped_put-requires-send-C-Rest
+dropped_put-requires-send-C-Rest g c κs = search (sendable, rest_send, Arc-send) depth 30
 
 pub with_room-container-requires-in-loop-made-2-send-C-Rest : goal.with_room-container-requires-in-loop-made-2-send-C-Rest
 with_room-container-requires-in-loop-made-2-send-C-Rest g c κs = search (sendable, rest_send, Arc-send) depth 30
 
-pub dropped_take-requires-send-M-Op : goal.dropped_take-requires-send-M-Op
-dropped_take-requires-send-M-Op g c κs = search (sendable, op_send, Arc-send) depth 30
+pub dropped_take-requires-send-C-Op : goal.dropped_take-requires-send-C-Op
+dropped_take-requires-send-C-Op g c κs = search (sendable, op_send, Arc-send) depth 30
 
-pub dropped_take-requires-send-M-Rest : goal.dropped_take-requires-send-M-Rest
-dropped_take-requires-send-M-Rest g c κs = search (sendable, rest_send, Arc-send) depth 30
+pub dropped_take-requires-send-C-Rest : goal.dropped_take-requires-send-C-Rest
+dropped_take-requires-send-C-Rest g c κs = search (sendable, rest_send, Arc-send) depth 30
 
 pub with_room-container-requires-in-loop-made-3-send-C-Rest : goal.with_room-container-requires-in-loop-made-3-send-C-Rest
 with_room-container-requires-in-loop-made-3-send-C-Rest g c κs = search (sendable, rest_send, Arc-send) depth 30
 
-pub dropped_late_put-requires-send-M-Op : goal.dropped_late_put-requires-send-M-Op
-dropped_late_put-requires-send-M-Op g c κs = search (sendable, op_send, Arc-send) depth 30
+pub dropped_late_put-requires-send-C-Op : goal.dropped_late_put-requires-send-C-Op
+dropped_late_put-requires-send-C-Op g c κs = search (sendable, op_send, Arc-send) depth 30
 
-pub dropped_late_put-requires-send-M-Rest : goal.dropped_late_put-requires-send-M-Rest
-dropped_late_put-requires-send-M-Rest g c κs = search (sendable, rest_send, Arc-send) depth 30
+pub dropped_late_put-requires-send-C-Rest : goal.dropped_late_put-requires-send-C-Rest
+dropped_late_put-requires-send-C-Rest g c κs = search (sendable, rest_send, Arc-send) depth 30
