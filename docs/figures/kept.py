@@ -1,31 +1,19 @@
 """The figures that were measured: docs/figures/speed.tsv and calls.tsv, and whether they are of the code as it is.
 
-The first lines of each file, which begin with '#', say what was measured: the commit, the digest of its sources, the machine
-and the rounds. Then comes the line with the names of the columns. '-' is a figure that was not measured."""
+The first lines of each file, which begin with '#', say what was measured: the commit, the digests of the code by the language
+that calls it, the machine and the rounds. Then comes the line with the names of the columns. '-' is a figure that was not
+measured. bench/compare --write writes both files."""
 
-import glob
-import hashlib
 import os
 
+import measured_code
+
 HERE = os.path.dirname(os.path.realpath(__file__))
-TOP = os.path.dirname(os.path.dirname(HERE))
 SPEED, CALLS = f"{HERE}/speed.tsv", f"{HERE}/calls.tsv"
-# What a call from C++ runs: if one of these files changes, the figures are of other code.
-CRATES = "backoff index_list running stack_table queue_table ring_table bounded ms_queue treiber_stack ring_queue bounded_calls lockfree_c"
-
-
-def sources(top=TOP):
-    found = [path for crate in CRATES.split() for path in glob.glob(f"{top}/crates/{crate}/src/**/*.rt", recursive=True)]
-    return sorted(found + glob.glob(f"{top}/c/lockfree*.h*") + glob.glob(f"{top}/c/lockfree/*.h*"))
-
-
-def digest(top=TOP):
-    """A name for the code that a call runs, as it is in this tree."""
-    whole = hashlib.sha256()
-    for path in sources(top):
-        with open(path, "rb") as file:
-            whole.update(os.path.relpath(path, top).encode() + b"\0" + hashlib.sha256(file.read()).digest())
-    return whole.hexdigest()[:16]
+HEADS = {
+    SPEED: "container from capacity threads bytes work ns boost_ns low high p50 p99 p999 boost_p999".split(),
+    CALLS: "container call bytes here boost".split(),
+}
 
 
 def read(path):
@@ -37,16 +25,17 @@ def read(path):
     return about, [dict(zip(names, row)) for row in rows]
 
 
+def write(path, about, rows):
+    with open(path, "w", encoding="utf-8") as file:
+        file.writelines(f"# {name} {said}\n" for name, said in about.items())
+        file.writelines("\t".join(row) + "\n" for row in [HEADS[path], *([row[it] for it in HEADS[path]] for row in rows)])
+
+
 def number(cell):
     return None if cell == "-" else float(cell)
 
 
-def is_of_this_code(about):
-    return about["sources"] == digest()
-
-
-def origin():
-    """Of which code the figures are."""
-    about, _ = read(SPEED)
-    said = f"Measured at commit `{about['commit']}` ({about['machine']}; {about['rounds']})."
-    return said if is_of_this_code(about) else f"{said} The code of the containers has changed since then, so measure again before you rely on a figure."
+def at_commit(about, *callers):
+    """Of which code figures of calls from these languages are: the commit, and whether the code is another now."""
+    is_now = all(about[caller] == measured_code.digest(caller) for caller in callers)
+    return f"at commit `{about['commit']}`{'' if is_now else ', before later changes'}"

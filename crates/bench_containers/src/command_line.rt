@@ -22,6 +22,10 @@ gives 50 spin hints and then yields.
 Work is a loop of multiplications, each of which needs the one before. How many make so many
 nanoseconds is found at the start by the clock: the shortest of 30 trials counts.
 
+With --call one thread makes one call again and again, so that its instructions can be counted: a
+put and a take in turn, a put into a full container, a take from an empty one, or a look at a full
+one. It says how many were made and answered so.
+
 An array-queue is the kit's crossbeam_queue::ArrayQueue, to compare with; a flag beside it closes
 it.
 
@@ -43,7 +47,8 @@ pub fn command_line<'a>(alloc: Global) -> Result<Command<'a>, AllocError> {
         .arg(producers(alloc))?
         .arg(consumers(alloc))?
         .arg(items(alloc))?
-        .arg(work(alloc))
+        .arg(work(alloc))?
+        .arg(call(alloc))
 }
 
 fn kind<'a>(alloc: Global) -> Arg<'a> {
@@ -98,4 +103,12 @@ fn work<'a>(alloc: Global) -> Arg<'a> {
         .value_parser(value_parser!(u32).range(0..=MAX_WORK))
         .default_value("0")
         .help("Nanoseconds of work before each put and after each take, 0 to 1,000,000")
+}
+
+fn call<'a>(alloc: Global) -> Arg<'a> {
+    Arg::new(alloc, "call")
+        .long("call")
+        .value_name("CALL")
+        .value_parser(["pair", "refused-put", "refused-take", "look"].as_slice())
+        .help("Makes this call alone, as often as there are items, and reads no clock")
 }

@@ -1,20 +1,22 @@
 //! Measures how long an item takes through a container, from its put to its take, how many items
 //! come out in a second, and how long a call takes. Each producer puts its items, and the consumers
 //! take them all, with work between their calls if it is asked for. With no producer one thread
-//! puts and takes in turn. `--help` tells the words. Without words it makes short runs and prints
-//! no time.
+//! puts and takes in turn. With `--call` it makes one call again and again, and reads no clock.
+//! `--help` tells the words. Without words it makes short runs and prints no time.
 #![tactic(auto)]
 
 mod array_queue;
 mod command_line;
 mod fault;
 mod measure;
+mod repeating;
 mod run;
 
 use crate::command_line::command_line;
 use crate::fault::BenchFault;
 use crate::measure::measure;
-use crate::run::{Kind, Run};
+use crate::repeating::repeat_new;
+use crate::run::{Kind, Run, repeated};
 use clap::error::ErrorKind;
 use std::env;
 use std::process::ExitCode;
@@ -73,7 +75,13 @@ fn bench<R: Env + Print + Clock + AllocGlobal + Threads + Wait + Sync>(
         texts.push(word.as_str())?;
     }
     let found = command_line(rt.alloc())?.try_get_matches_from(texts.as_slice())?;
-    report(rt, &Run::of(&found)?)
+    let run = Run::of(&found)?;
+    let Some(calls) = repeated(&found)? else {
+        return report(rt, &run);
+    };
+    let made = repeat_new(rt, rt.alloc(), &run, calls)?;
+    println!(rt; "calls made: {made}")?;
+    Ok(())
 }
 
 fn main(rt: HostRuntime) -> ExitCode {

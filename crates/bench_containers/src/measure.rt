@@ -177,9 +177,9 @@ fn send_freely<M: Meter + Send, R: Threads + Wait + Clock + Sync>(
     send(rt, alloc, &array, team, load, work)
 }
 
-// A ring of the run's capacity, with the most laps that may be, and a pass for each thread and one
-// more.
-fn ring_limits(run: &Run) -> Result<RingLimits, BenchFault> {
+/// A ring of the run's capacity, with the most laps that may be, and a pass for each thread and one
+/// more.
+pub fn ring_limits(run: &Run) -> Result<RingLimits, BenchFault> {
     let passes = run
         .load
         .producers

@@ -1,7 +1,7 @@
 //! What one run of the benchmark is given.
 
 use crate::fault::BenchFault;
-use bench_work::Load;
+use bench_work::{Load, Repeated};
 use clap::ArgMatches;
 use tagged_index::Limits;
 
@@ -37,6 +37,18 @@ impl Kind {
             Kind::Ring => "ring",
             Kind::ArrayQueue => "array-queue",
         }
+    }
+}
+
+/// The calls that are made again and again, if that was asked for. `Range` if no calls are called so.
+pub fn repeated(found: &ArgMatches<'_>) -> Result<Option<Repeated>, BenchFault> {
+    match found.get_str("call") {
+        None => Ok(None),
+        Some("pair") => Ok(Some(Repeated::Pair)),
+        Some("refused-put") => Ok(Some(Repeated::RefusedPut)),
+        Some("refused-take") => Ok(Some(Repeated::RefusedTake)),
+        Some("look") => Ok(Some(Repeated::Look)),
+        Some(_) => Err(BenchFault::Range),
     }
 }
 

@@ -1,0 +1,89 @@
+"""The code on which measured figures depend: that which is measured, and that which measures.
+
+A comment, a contract or a line break changes no figure, so it changes no digest."""
+
+import functools
+import glob
+import hashlib
+import os
+import re
+import subprocess
+
+TOP = os.path.dirname(os.path.dirname(os.path.dirname(os.path.realpath(__file__))))
+# By the language that calls: the crate that it calls, and the other files.
+PARTS = {
+    "C++": ("lockfree_c", ("c/lockfree.h", "c/lockfree.hpp", "c/lockfree/*.hpp", "bench/peers.cpp", "bench/refusals.cpp")),
+    "Rattle": ("bench_containers", ("bench/peers.cpp",)),
+}
+COMMENT = re.compile(r"//[^\n]*|/\*.*?\*/", re.S)
+IMPORT = re.compile(r"\bghost use\b[^;]*;")
+# How a contract or another text for the prover begins.
+GHOST = re.compile(r"\b(?:(?:requires|ensures) ?\*?(?: \w+)?|ghost(?: \w+)?(?: ?: \w+)?(?: ?[:=])?)\s*(?=\{)")
+
+
+def read(path):
+    with open(f"{TOP}/{path}", encoding="utf-8") as file:
+        return file.read()
+
+
+def crates_below(name):
+    """A crate and those that it uses, by crates.txt."""
+    rows = [row for line in read("crates.txt").splitlines() if (row := line.split("#")[0].strip())]
+    uses = {row.split(":")[0].split()[0]: row.partition(":")[2].split() for row in rows}
+    found, ahead = set(), [name]
+    while ahead:
+        if (crate := ahead.pop()) in uses and crate not in found:
+            found.add(crate)
+            ahead += uses[crate]
+    return sorted(found)
+
+
+def paths_of(caller):
+    crate, files = PARTS[caller]
+    return [*(f"crates/{it}/src" for it in crates_below(crate)), *files]
+
+
+def files_of(caller):
+    for path in paths_of(caller):
+        pattern = f"{path}/**/*.rt" if path.startswith("crates/") else path
+        yield from sorted(os.path.relpath(it, TOP) for it in glob.glob(f"{TOP}/{pattern}", recursive=True))
+
+
+def after_braces(text, begin):
+    """The place after the brace that closes the one at `begin`."""
+    depth = 0
+    for at in range(begin, len(text)):
+        depth += {"{": 1, "}": -1}.get(text[at], 0)
+        if depth == 0:
+            return at + 1
+    return len(text)
+
+
+def code_of(path):
+    text = COMMENT.sub("", read(path))
+    if path.endswith(".rt"):
+        text = IMPORT.sub("", text)
+        while ghost := GHOST.search(text):
+            text = text[:ghost.start()] + text[after_braces(text, ghost.end()):]
+    return " ".join(text.split())
+
+
+@functools.cache
+def digest(caller):
+    """A name for the code that a call from this language runs, as it is in this tree."""
+    whole = hashlib.sha256()
+    for path in files_of(caller):
+        whole.update(f"{path}\n{code_of(path)}\n".encode())
+    return whole.hexdigest()[:16]
+
+
+def git(*words):
+    """What git says; nothing if it fails, since an unpacked archive has no history."""
+    done = subprocess.run(["git", *words], cwd=TOP, check=False, capture_output=True, text=True)
+    return done.stdout.strip() if done.returncode == 0 else ""
+
+
+def commit():
+    """The commit of this tree, unless files were changed on which figures depend."""
+    paths = [it for caller in PARTS for it in paths_of(caller)]
+    return git("rev-parse", "--short=8", "HEAD") if not git("status", "--porcelain", "--", *paths) else ""
