@@ -12,7 +12,7 @@
 #include <ucontext.h>
 #include <unistd.h>
 
-enum { CAPACITY = 4, BEFORE = 2, ROUNDS = 20, OF_STOPPED = 1000, EACH_CALL = 8, STEP_FLAG = 0x100, PATIENCE = 60 };
+enum { CAPACITY = 4, BEFORE = 2, ROUNDS = 20, OF_STOPPED = 10000, EACH_CALL = 8, STEP_FLAG = 0x100, PATIENCE = 60 };
 enum { RUNS, STOPPED, ENDED };
 
 /* A thread that puts or takes by `tries`, and stops after so many instructions, and then after each `every` more if it is
@@ -78,7 +78,8 @@ static lockfree_answer ends(lockfree_handle *pass, lockfree_answer answer)
     return answer;
 }
 
-/* What the others have put and taken. Their values count from 1, in the order of their puts. */
+/* What the others have put and taken. Their values count from 1, in the order of their puts, and stay below that of the thread
+ * that has stopped: they put one for every few instructions of a call, and a disturbed call of a ring makes some 6,000. */
 struct others {
     lockfree_handle passes[2];
     uint64_t put, taken, last;
@@ -89,6 +90,7 @@ struct others {
 static bool put(struct others *others)
 {
     lockfree_handle *pass = &others->passes[others->put % 2];
+    CHECK(others->put + 1 < OF_STOPPED);
     uint32_t code = ends(pass, lockfree_put(pass, others->put + 1, 1)).code;
     CHECK(code == LOCKFREE_OK || code == LOCKFREE_FULL);
     others->put += code == LOCKFREE_OK;
