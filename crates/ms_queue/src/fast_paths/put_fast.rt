@@ -34,29 +34,12 @@ pub(crate) fn put_fast<T>(
 {
     let (pass, at) = fast_step!(put_fast_cell(on, by, value, put));
     let PutAt::LoadNodes(shown, cell) = at else {
-        return apart(put_fast_refuse(on, pass, at, put));
+        return put_fast_refuse(on, pass, at, put);
     };
     let (pass, at) = fast_step!(put_fast_node(on, pass, shown, cell, put));
     let (pass, at) = fast_step!(put_fast_prepare(on, pass, at, put));
     let (pass, at) = fast_step!(put_fast_seek(on, pass, at, put));
     put_fast_link(on, pass, at, put)
-}
-
-// What came back from a function of its own, put together anew. Else the compiler lends that
-// function the memory of the whole call's result, and then keeps all of it in memory, on the fast
-// path too.
-#[inline(always)]
-fn apart<P, S, R>(came: (P, Next<S, Answered<R>>)) -> (P, Next<S, Answered<R>>)
-    ensures { result ≡ came }
-{
-    match came {
-        (pass, Next::On(at)) => (pass, Next::On(at)),
-        (pass, Next::Lost(at)) => (pass, Next::Lost(at)),
-        (pass, Next::Done(Answered { reply, kept })) => (
-            pass,
-            Next::Done(Answered { reply, kept }),
-        ),
-    }
 }
 
 // First the steps that take a cell.
@@ -87,9 +70,8 @@ fn put_fast_cell<T>(
     any(table, on, pass, PutAt::TakeCell(value, cells, link), put)
 }
 
-// The steps that say why nothing can be put, if no cell is free. They are a function of their own,
-// so that a put that takes a cell does not pass over that code.
-#[inline(never)]
+// The steps that say why nothing can be put, if no cell is free.
+#[inline]
 fn put_fast_refuse<T>(
     on: &Queue<T>,
     by: running::Pass<T, Line<T>>,

@@ -1,5 +1,4 @@
-use Rattle.std.proofs.Common.{rules, subst, sym}
-use Rattle.ms_queue.specs.Putting.{PutRan}
+use Rattle.std.proofs.Common.{rules}
 use Rattle.ms_queue.proofs.FastPath.{put_after}
 use Rattle.ms_queue.proofs.fast_paths.put_fast.put_fast.Goals as goal
 
@@ -22,5 +21,4 @@ returns-5 g c = put_after c.args.on.now c.args.put.now c.args.by.pass c.put_fast
     (put_after c.args.on.now c.args.put.now c.put_fast_prepare.result.0 c.put_fast_seek.result.0 c.put_fast_link.result.0 (let ran = c.put_fast_seek.ensures in search rules depth 7) _ c.put_fast_link.ensures)))
 
 pub returns-in_default-at : goal.returns-in_default-at
-returns-in_default-at g c = subst (λ r. PutRan c.args.on.now c.args.put.now c.args.by.pass r.0 r.1) (sym c.apart.ensures)
-    (put_after c.args.on.now c.args.put.now c.args.by.pass c.put_fast_cell.result.0 c.put_fast_refuse.result.0 (let ran = c.put_fast_cell.ensures in search rules depth 7) _ c.put_fast_refuse.ensures)
+returns-in_default-at g c = put_after c.args.on.now c.args.put.now c.args.by.pass c.put_fast_cell.result.0 c.put_fast_refuse.result.0 (let ran = c.put_fast_cell.ensures in search rules depth 7) _ c.put_fast_refuse.ensures
