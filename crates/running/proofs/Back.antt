@@ -40,12 +40,14 @@ module _ {T L O K R S : Type 0} {names : Names L O} (m : Machine T L O names) (c
     ran = e.ran (idle o a);
   }
 
+  -- and so does one that some steps of a call have ended
+  pub has_returned_by : (o : O) (by q : runs.Pass T L) (a : Answered K R) → Ran m c id o by q (Ended_now a) → Returned m c Keeps id Gives o (passes.begun_of m by) (back q a) a.reply
+  has_returned_by o by q a ran = let e = ended m c id o (passes.begun_of m by) q a (idle o a) ran in returned o (passes.begun_of m by) q a e.0 e.1
+
   module _ (o : O) (by : PassWith T L K) (is : IsPassAt m Keeps id by) where
-    -- and so does one that some steps of a call have ended
+    -- as its pass was, if it was between its calls
     pub has_returned : (q : runs.Pass T L) (a : Answered K R) → Ran m c id o by.pass q (Ended_now a) → Returned m c Keeps id Gives o (pass_in by) (back q a) a.reply
-    has_returned q a ran =
-        let e = ended m c id o (passes.begun_of m by.pass) q a (idle o a) ran in
-        returned o (pass_in by) q a e.0 (subst (λ (v : PassView T). Ended m o q.seat.me.0 v (c.answer o a)) (begun_is m id by.pass is.on) e.1)
+    has_returned q a ran = subst (λ (v : PassView T). Returned m c Keeps id Gives o v (back q a) a.reply) (begun_is m id by.pass is.on) (has_returned_by o by.pass q a ran)
 
     -- by what the code found in the result of its first steps
     pub has_returned_now : (q : runs.Pass T L) (next : Next S (Answered K R)) (a : Answered K R) (found : Next S (Answered K R) → Answered K R) (at : PassWith T L K) (reply : R) → next ≡ Ended_now a → found (Ended_now a) ≡ a → at ≡ record { pass = q; kept = (found next).kept } → reply ≡ (found next).reply → Ran m c id o by.pass q next

@@ -1,5 +1,6 @@
 //! The end of a call: what comes back to its caller.
 ghost use Rattle.running.specs.Kept.{IsPassAt, Returned, Took, pass_in};
+ghost use Rattle.running.specs.Passes.{begun_of};
 ghost use Rattle.running.specs.Steps.{Ran};
 ghost use Rattle.running.specs.declared.kept.PassWith as kept;
 ghost use Rattle.running.specs.declared.passes.Pass as runs;
@@ -36,12 +37,18 @@ pub fn whole<
 ) -> (PassWith<T, L, K>, A)
     requires { (by : runs.Pass T L) × Ran (M.machine (C.key on.now)) (S.account (C.key on.now))
         (C.id on.now) operation by first.0 first.1 }
-    ensures { (by : kept.PassWith T L K)
+    ensures rested { (by : kept.PassWith T L K)
         → IsPassAt (M.machine (C.key on.now)) C.keeps (C.id on.now) by
         → Ran (M.machine (C.key on.now)) (S.account (C.key on.now)) (C.id on.now) operation
         by.pass first.0 first.1
         → Returned (M.machine (C.key on.now)) (S.account (C.key on.now)) C.keeps (C.id on.now)
         (S.gives (C.key on.now)) operation (pass_in by) result.0 result.1 }
+    ensures began { (by : runs.Pass T L)
+        → Ran (M.machine (C.key on.now)) (S.account (C.key on.now)) (C.id on.now) operation
+        by first.0 first.1
+        → Returned (M.machine (C.key on.now)) (S.account (C.key on.now)) C.keeps (C.id on.now)
+        (S.gives (C.key on.now)) operation (begun_of (M.machine (C.key on.now)) by) result.0
+        result.1 }
 {
     let (pass, answer) = to_the_end::<R, C, T, L, O, M, Answered<K, A>, S, N>(
         rt,
@@ -74,12 +81,17 @@ pub fn leave<
 ) -> Stepped<Op<T, L, O, S>, PassWith<T, L, K>, A>
     requires { (by : runs.Pass T L) × Ran (M.machine (C.key on.now)) (S.account (C.key on.now))
         (C.id on.now) operation by first.0 first.1 }
-    ensures { (by : kept.PassWith T L K)
+    ensures rested { (by : kept.PassWith T L K)
         → IsPassAt (M.machine (C.key on.now)) C.keeps (C.id on.now) by
         → Ran (M.machine (C.key on.now)) (S.account (C.key on.now)) (C.id on.now) operation
         by.pass first.0 first.1
         → Took (M.machine (C.key on.now)) (S.account (C.key on.now)) C.keeps (C.id on.now)
         (S.gives (C.key on.now)) operation (pass_in by) result }
+    ensures began { (by : runs.Pass T L)
+        → Ran (M.machine (C.key on.now)) (S.account (C.key on.now)) (C.id on.now) operation
+        by first.0 first.1
+        → Took (M.machine (C.key on.now)) (S.account (C.key on.now)) C.keeps (C.id on.now)
+        (S.gives (C.key on.now)) operation (begun_of (M.machine (C.key on.now)) by) result }
 {
     match at_once::<C, T, L, O, M, Answered<K, A>, S, N>(on, first, &operation) {
         Stepped::Again((pass, at)) => Stepped::Again(Op {

@@ -3,20 +3,20 @@ use Rattle.ms_queue.proofs.life.queue.Queue.gauge.Goals as goal
 
 pub returns-clause-of : goal.returns-clause-of
 returns-clause-of g c =
-    let b = c.whole.ensures c.args.by c.requires c.first_step-first.ensures.ran in
+    let b = c.whole.ensures.rested c.args.by c.requires c.first_step-first.ensures.ran in
     b.of
 
 pub returns-clause-gives : goal.returns-clause-gives
 returns-clause-gives g c =
-    let b = c.whole.ensures c.args.by c.requires c.first_step-first.ensures.ran in
+    let b = c.whole.ensures.rested c.args.by c.requires c.first_step-first.ensures.ran in
     (b.gives refl).0
 
 pub returns-clause-answered : goal.returns-clause-answered
 returns-clause-answered g c =
-    let b = c.whole.ensures c.args.by c.requires c.first_step-first.ensures.ran in
+    let b = c.whole.ensures.rested c.args.by c.requires c.first_step-first.ensures.ran in
     (b.gives refl).1
 
 pub returns-clause-ran : goal.returns-clause-ran
 returns-clause-ran g c =
-    let b = c.whole.ensures c.args.by c.requires c.first_step-first.ensures.ran in
+    let b = c.whole.ensures.rested c.args.by c.requires c.first_step-first.ensures.ran in
     b.ran

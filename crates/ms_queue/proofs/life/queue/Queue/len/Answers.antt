@@ -7,27 +7,27 @@ use Rattle.ms_queue.proofs.life.queue.Queue.len.Goals as goal
 pub overflow_cast-result : goal.overflow_cast-result
 overflow_cast-result g c =
     let q = c.args.self.now in
-    let b = c.whole-pass.ensures c.args.by c.requires c.first_step-first.ensures.ran in
+    let b = c.whole-pass.ensures.rested c.args.by c.requires c.first_step-first.ensures.ran in
     let gives = b.gives refl in
     let low : c.whole-pass.result.1 ≤ room_of q = omega (arith, gives.0.1.holds, within_capacity (shape_of q) gives.0.1.at (legal_before (shape_of q) gives.0.1.until b.ended.rests.legal)) in
     omega (arith, low, q.table.shared.key.capacity_in_range)
 
 pub returns-clause-of : goal.returns-clause-of
 returns-clause-of g c =
-    let b = c.whole-pass.ensures c.args.by c.requires c.first_step-first.ensures.ran in
+    let b = c.whole-pass.ensures.rested c.args.by c.requires c.first_step-first.ensures.ran in
     b.of
 
 pub returns-clause-gives : goal.returns-clause-gives
 returns-clause-gives g c =
-    let b = c.whole-pass.ensures c.args.by c.requires c.first_step-first.ensures.ran in
+    let b = c.whole-pass.ensures.rested c.args.by c.requires c.first_step-first.ensures.ran in
     (b.gives refl).0
 
 pub returns-clause-answered : goal.returns-clause-answered
 returns-clause-answered g c =
-    let b = c.whole-pass.ensures c.args.by c.requires c.first_step-first.ensures.ran in
+    let b = c.whole-pass.ensures.rested c.args.by c.requires c.first_step-first.ensures.ran in
     (b.gives refl).1
 
 pub returns-clause-ran : goal.returns-clause-ran
 returns-clause-ran g c =
-    let b = c.whole-pass.ensures c.args.by c.requires c.first_step-first.ensures.ran in
+    let b = c.whole-pass.ensures.rested c.args.by c.requires c.first_step-first.ensures.ran in
     b.ran

@@ -30,4 +30,4 @@ returns-in_default g c =
     let q = c.args.self.now in
     let key = q.table.shared.key in
     tried (machine_of q) (put_account key) keeps q.table.shared.table_id (put_promises key) c.put_operation-put.result (pass_in c.args.by) (is_call (Put c.args.value)) c.put_operation-put.ensures.0
-    (λ w r. PutGives (shape_of q) (pass_in c.args.by) c.args.value w r × Answers (pass_in c.args.by) w (put_answered r)) (λ w r gives. gives c.args.value c.put_operation-put.ensures.0) c.leave.result (c.leave.ensures c.args.by c.requires c.put_fast.ensures)
+    (λ w r. PutGives (shape_of q) (pass_in c.args.by) c.args.value w r × Answers (pass_in c.args.by) w (put_answered r)) (λ w r gives. gives c.args.value c.put_operation-put.ensures.0) c.leave.result (c.leave.ensures.rested c.args.by c.requires c.put_fast.ensures)

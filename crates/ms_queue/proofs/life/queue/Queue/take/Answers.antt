@@ -28,6 +28,6 @@ returns-in_default-Done g c =
 pub returns-in_default : goal.returns-in_default
 returns-in_default g c =
     let o = TakeFirst in
-    let b = c.whole.ensures c.args.by c.requires c.take_fast.ensures in
+    let b = c.whole.ensures.rested c.args.by c.requires c.take_fast.ensures in
     let gives = b.gives refl in
     record { of = b.of; gives = gives.0; answered = gives.1; ran = record { operation = o; call = refl; ran = b.ran } }

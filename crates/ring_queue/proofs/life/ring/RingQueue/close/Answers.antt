@@ -13,26 +13,26 @@ pub returns-clause-of : goal.returns-clause-of
 returns-clause-of g c =
     let q = c.args.self.now in
     let e = c.begin_close-pass.ensures in
-    let b = c.whole.ensures c.args.by c.requires (runs_from (machine_of q) (mark_account q.table.shared.key) keeps q.table.shared.table_id c.args.by c.requires c.begin_close-pass.result e.makes.under_way e.begun) in
+    let b = c.whole.ensures.rested c.args.by c.requires (runs_from (machine_of q) (mark_account q.table.shared.key) keeps q.table.shared.table_id c.args.by c.requires c.begin_close-pass.result e.makes.under_way e.begun) in
     b.of
 
 pub returns-clause-gives : goal.returns-clause-gives
 returns-clause-gives g c =
     let q = c.args.self.now in
     let e = c.begin_close-pass.ensures in
-    let b = c.whole.ensures c.args.by c.requires (runs_from (machine_of q) (mark_account q.table.shared.key) keeps q.table.shared.table_id c.args.by c.requires c.begin_close-pass.result e.makes.under_way e.begun) in
+    let b = c.whole.ensures.rested c.args.by c.requires (runs_from (machine_of q) (mark_account q.table.shared.key) keeps q.table.shared.table_id c.args.by c.requires c.begin_close-pass.result e.makes.under_way e.begun) in
     (b.gives.closes e.makes.call).0
 
 pub returns-clause-answered : goal.returns-clause-answered
 returns-clause-answered g c =
     let q = c.args.self.now in
     let e = c.begin_close-pass.ensures in
-    let b = c.whole.ensures c.args.by c.requires (runs_from (machine_of q) (mark_account q.table.shared.key) keeps q.table.shared.table_id c.args.by c.requires c.begin_close-pass.result e.makes.under_way e.begun) in
+    let b = c.whole.ensures.rested c.args.by c.requires (runs_from (machine_of q) (mark_account q.table.shared.key) keeps q.table.shared.table_id c.args.by c.requires c.begin_close-pass.result e.makes.under_way e.begun) in
     (b.gives.closes e.makes.call).1
 
 pub returns-clause-ran : goal.returns-clause-ran
 returns-clause-ran g c =
     let q = c.args.self.now in
     let e = c.begin_close-pass.ensures in
-    let b = c.whole.ensures c.args.by c.requires (runs_from (machine_of q) (mark_account q.table.shared.key) keeps q.table.shared.table_id c.args.by c.requires c.begin_close-pass.result e.makes.under_way e.begun) in
+    let b = c.whole.ensures.rested c.args.by c.requires (runs_from (machine_of q) (mark_account q.table.shared.key) keeps q.table.shared.table_id c.args.by c.requires c.begin_close-pass.result e.makes.under_way e.begun) in
     record { operation = c.begin_close-pass.result.operation; call = e.makes.call; ran = b.ran }

@@ -26,6 +26,6 @@ returns-in_default-Done g c =
 pub returns-in_default : goal.returns-in_default
 returns-in_default g c =
     let o = c.put_operation-put.result in
-    let b = c.whole.ensures c.args.by c.requires c.put_fast.ensures in
+    let b = c.whole.ensures.rested c.args.by c.requires c.put_fast.ensures in
     let gives = b.gives c.args.value c.put_operation-put.ensures.0 in
     record { of = b.of; gives = gives.0; answered = gives.1; ran = record { operation = o; call = c.put_operation-put.ensures.0; ran = b.ran } }

@@ -33,4 +33,4 @@ returns-in_default g c =
     let q = c.args.self.now in
     let key = q.table.shared.key in
     tried (machine_of q) (take_account key) keeps q.table.shared.table_id (take_promises key) TakeFirst (pass_in c.args.by) (is_call Take) refl
-    (λ w r. TakeGives (shape_of q) (pass_in c.args.by) w r × Answers (pass_in c.args.by) w (TakeAnswered r)) (λ w r gives. gives refl) c.leave.result (c.leave.ensures c.args.by c.requires c.take_fast.ensures)
+    (λ w r. TakeGives (shape_of q) (pass_in c.args.by) w r × Answers (pass_in c.args.by) w (TakeAnswered r)) (λ w r gives. gives refl) c.leave.result (c.leave.ensures.rested c.args.by c.requires c.take_fast.ensures)

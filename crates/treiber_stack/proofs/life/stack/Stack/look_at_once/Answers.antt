@@ -15,4 +15,4 @@ returns g c =
     let q = c.args.self.now in
     let key = q.table.shared.key in
     tried (machine_of q) (look_account key) keeps q.table.shared.table_id (look_promises key) LookFirst (pass_in c.args.by) (is_call Look) refl
-    (λ w r. LookGives (shape_of q) (pass_in c.args.by) w r × Answers (pass_in c.args.by) w (LookAnswered r)) (λ w r gives. gives refl) c.leave.result (c.leave.ensures c.args.by c.requires c.look_fast-first.ensures)
+    (λ w r. LookGives (shape_of q) (pass_in c.args.by) w r × Answers (pass_in c.args.by) w (LookAnswered r)) (λ w r gives. gives refl) c.leave.result (c.leave.ensures.rested c.args.by c.requires c.look_fast-first.ensures)
