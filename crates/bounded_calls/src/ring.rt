@@ -18,14 +18,14 @@ impl BoundedCalls<u64> for RingQueue<u64> {
     type Rest = Rest<u64>;
 
     // The steps of a take, if the hint lags as far as it can and has moved meanwhile.
-    const UNDISTURBED: u64 = 25;
+    const UNDISTURBED: u64 = 17;
 
-    // The hint, eight positions, and the exchange there.
-    const TO_EXCHANGE: u64 = 10;
+    // The hint, four positions, and the exchange there.
+    const TO_EXCHANGE: u64 = 6;
 
-    ghost UNDISTURBED = { 25 };
+    ghost UNDISTURBED = { 17 };
 
-    ghost TO_EXCHANGE = { 10 };
+    ghost TO_EXCHANGE = { 6 };
 
     ghost reading = { ring_reading };
 

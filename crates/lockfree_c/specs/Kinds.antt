@@ -46,4 +46,4 @@ abbrev pub stack_steps : ℕ → ℕ
 stack_steps = steps_of 10 3
 
 abbrev pub ring_steps : ℕ → ℕ
-ring_steps = steps_of 25 10
+ring_steps = steps_of 17 6

@@ -28,17 +28,17 @@ pub(crate) const STACK_BULK: Steps = Steps {
     again: 3,
 };
 
-/// A ring's count makes at most 25 steps from its begin, and again after a look that found a value
+/// A ring's count makes at most 17 steps from its begin, and again after a look that found a value
 /// taken, if no other pass succeeds meanwhile.
 pub(crate) const RING_COUNT: Steps = Steps {
-    undisturbed: 25,
-    again: 25,
+    undisturbed: 17,
+    again: 17,
 };
 
 /// The same of a ring's gauge.
 pub(crate) const RING_GAUGE: Steps = Steps {
-    undisturbed: 12,
-    again: 12,
+    undisturbed: 8,
+    again: 8,
 };
 
 /// How many steps this number of tries allows.

@@ -31,8 +31,8 @@ module _ {T : Type 0} (c : RingQueue T) where
   id = c.table.shared.table_id
 
   pub ends_or_overtaken : {S A : Type 0} (a : Account T (SeatLine T) (Operation T) S (Answered A)) (Gives : Operation T → PassView T → PassView T → A → Type 0) (k : ℕ) (op : Op T (SeatLine T) (Operation T) S) (r : Stepped (Op T (SeatLine T) (Operation T) S) (Pass T) A)
-      → MadeFor (machine_of c) a keeps id Gives (k + 48) op r → EndsOrOvertaken c r
-  ends_or_overtaken a Gives k op (Again next) e = overtaken c next.operation next.pass (going (machine_of c) a id next e.0.under_way) (k + 48) 0 e.0.made (omega arith)
+      → MadeFor (machine_of c) a keeps id Gives (k + 32) op r → EndsOrOvertaken c r
+  ends_or_overtaken a Gives k op (Again next) e = overtaken c next.operation next.pass (going (machine_of c) a id next e.0.under_way) (k + 32) 0 e.0.made (omega arith)
   ends_or_overtaken a Gives k op (Done back answer) e = tt
 
   pub put_tried : (x : T) (v : PassView T) (k : ℕ) (op : PutOp T) → IsPutting c x op → begun_of (machine_of c) op.pass ≡ v → (r : Stepped (PutOp T) (Pass T) (Result ℕ (PutRefused T)))

@@ -52,7 +52,7 @@ module _ {T : Type 0} (c : RingQueue T) (o : Operation T) (p : Pass T (SeatLine 
       }
 
   -- after more steps than those, others have won
-  pub overtaken : (count w : ℕ) → HasMade names o p.seat.me.0 count → 47 + 30 * w < count → IsOvertaken c o p w
+  pub overtaken : (count w : ℕ) → HasMade names o p.seat.me.0 count → 31 + 18 * w < count → IsOvertaken c o p w
   overtaken count w made more =
       let b : Bounded count = bounds_some (machine_of c) p.seat.me.0 Bound since (λ first b. b.is) bound_so g count made (omega (arith, more)) in
       record { rest = b.rest; since = b.bound.since; is = b.bound.is; wins = λ numbers low. (let most = b.bound.bound numbers low in omega (arith, most, b.steps, more)) }

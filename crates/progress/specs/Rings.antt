@@ -33,7 +33,7 @@ module _ {T : Type 0} (c : RingQueue T) (o : Operation T) (p : Pass T (SeatLine 
   abbrev pub now : Acts (SeatLine T)
   now = acts_now p.seat.me.0
 
-  -- The steps of the pass in an operation that was begun at this line. They are `count`, and at most 47, and 30 for each exchange by
+  -- The steps of the pass in an operation that was begun at this line. They are `count`, and at most 31, and 18 for each exchange by
   -- which another pass has succeeded meanwhile
   pub record Bounds (first : SeatLine T) (count : ℕ) : Type 0 where
     pub bound : IsBounded (room_of c) (laps_of c) (passes_of c) before now (pass_in p).number first

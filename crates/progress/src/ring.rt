@@ -26,9 +26,9 @@ use bounded_model::{PutRefused, Stepped, TakeRefused};
 use ring_queue::{CloseOp, LenOp, LookOp, Pass, PutOp, Rest, RingQueue, Root, ShutOp, TakeOp};
 use runs::step_for;
 
-/// An operation that is still under way has made at most this many steps, and 30 more for each
+/// An operation that is still under way has made at most this many steps, and 18 more for each
 /// compare-and-swap by which another pass has succeeded.
-pub const ALONE: u64 = 47;
+pub const ALONE: u64 = 31;
 
 /// Puts a value step by step, with no wait, for at most `ALONE + 1` steps. If the put has not ended
 /// then, it comes back under way, and another pass's compare-and-swap has succeeded since it was
@@ -61,8 +61,8 @@ pub fn take_or_overtaken<T: Drop>(
 /// passes whose calls are linearizable. If no pass is out, all passes together have made at most as
 /// many steps as their calls cost. The answer of a call says its cost. In a ring for P passes at
 /// once, for any number of passes in all, the costs are:
-/// - a put `40 * P - 26`, a take `35 * P - 20`, a close or a shut `22 * P - 9`,
-/// - a look or a gauge 12, a count 25, a meeting or a note heard 1.
+/// - a put `24 * P - 14`, a take `23 * P - 12`, a close or a shut `14 * P - 5`,
+/// - a look or a gauge 8, a count 17, a meeting or a note heard 1.
 pub fn end<T>(ring: RingQueue<T>, parent: Root<T>) -> Rest<T>
     requires { IsRootOf ring parent }
     ensures leaves { Leaves (shape_of ring) (root_in parent) (left_in result) }
@@ -73,7 +73,7 @@ pub fn end<T>(ring: RingQueue<T>, parent: Root<T>) -> Rest<T>
     ring.finish(parent)
 }
 
-/// A put under way has made at most `ALONE` steps, and 30 for each compare-and-swap by which another pass
+/// A put under way has made at most `ALONE` steps, and 18 for each compare-and-swap by which another pass
 /// has succeeded since it was begun.
 pub fn put_is_bounded<T>(ring: &RingQueue<T>, op: &PutOp<T>)
     requires { (x : T) × IsPutting ring.now x op.now }

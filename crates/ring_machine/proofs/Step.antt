@@ -34,7 +34,7 @@ walks_on n hint most w b less more = record {
   short = short w.gone b.short more;
 }
   where
-    short : (k : ℕ) → k < 8 → eqb (k + 1) 8 ≡ false → k + 1 < 8
+    short : (k : ℕ) → k < stride → eqb (k + 1) stride ≡ false → k + 1 < stride
     short k h h' = grind (arith, nat_tests)
 
 walked_on : (n hint most : ℕ) (w : Walk) → Walks n hint most w → place n w.at < most → eqb (w.gone + 1) stride ≡ true → HasWalked n most (further n w)

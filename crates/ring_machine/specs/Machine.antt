@@ -55,7 +55,7 @@ full_at lap = 2 * lap + 1
 
 -- a walk passes fewer positions than this, and then moves `HEAD` or `TAIL`
 abbrev pub stride : ℕ
-stride = 8
+stride = 4
 
 abbrev pub walk : ℕ → Tagged → Walk
 walk cell w = record { cell = cell; from = w; at = w; gone = 0 }

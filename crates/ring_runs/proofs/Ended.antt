@@ -26,7 +26,7 @@ use Rattle.ring_runs.proofs.Rings.{Allowed, FreshFrom, with_pool, fresh_all, fre
 use Rattle.ring_runs.proofs.Total.{compared, reached, start_holds}
 
 module _ {T : Type 0} (k : ℕ) where
-  from_small : (call : Call T) → suc (alone call) + harms call * k ≤ 47 + 40 * k
+  from_small : (call : Call T) → suc (alone call) + harms call * k ≤ 31 + 24 * k
   from_small (CallPut v) = omega arith
   from_small CallTake = omega arith
   from_small CallClose = omega arith
@@ -35,9 +35,9 @@ module _ {T : Type 0} (k : ℕ) where
   from_small CallLen = omega arith
   from_small CallGauge = omega arith
 
-  line_small : (m : Pool T) (l : PoolLine T) → weighed m l + harmed l * k ≤ 47 + 40 * k
+  line_small : (m : Pool T) (l : PoolLine T) → weighed m l + harmed l * k ≤ 31 + 24 * k
   line_small m (Gets from call) = from_small call
-  line_small m (Goes (At l)) = omega (arith, weight_small m.memory l, mul-le-mul_right {m = harm l} {n = 40} k (harm_small l))
+  line_small m (Goes (At l)) = omega (arith, weight_small m.memory l, mul-le-mul_right {m = harm l} {n = 24} k (harm_small l))
   line_small m (Goes (Stock cs)) = omega arith
 
 module _ {T : Type 0} (n laps passes numbers : ℕ) (some_slot : 0 < n) (some_pass : 0 < passes) (later earlier : Acts (SeatLine T)) (low : Below numbers (later ++ earlier)) (allowed : Allowed n laps passes (later ++ earlier)) (fresh : AllFresh names (core T n laps passes) (later ++ earlier)) where
@@ -70,7 +70,7 @@ module _ {T : Type 0} (n laps passes numbers : ℕ) (some_slot : 0 < n) (some_pa
       omega (
         arith,
         c.steps,
-        calls_end (pool_ring giving_up n laps passes) (Holding n laps passes) weighed priced harmed alone_in harms_in (pays n laps passes) k AnyCall (47 + 40 * k) (λ from any. from_small k from.1) (lift at_point.0 s) at_point.1 (λ p u at. line_small k (lift at_point.0 s).memory u.line) ys (any_call ys) c.few,
-        ap (λ (e : ℕ). (47 + 40 * k) * (e + suc k)) c.ended,
-        ap (λ (most : ℕ). (47 + 40 * k) * (calls_ended (cell_ring n laps passes) schedule s + most)) many,
+        calls_end (pool_ring giving_up n laps passes) (Holding n laps passes) weighed priced harmed alone_in harms_in (pays n laps passes) k AnyCall (31 + 24 * k) (λ from any. from_small k from.1) (lift at_point.0 s) at_point.1 (λ p u at. line_small k (lift at_point.0 s).memory u.line) ys (any_call ys) c.few,
+        ap (λ (e : ℕ). (31 + 24 * k) * (e + suc k)) c.ended,
+        ap (λ (most : ℕ). (31 + 24 * k) * (calls_ended (cell_ring n laps passes) schedule s + most)) many,
       )

@@ -46,7 +46,7 @@ module _ {T : Type 0} (k : ℕ) where
   worth_answer p CallGauge (AnswerGauge closed used) events made = omega arith
   worth_answer p call a events made = absurd made
 
-  pub fee_small : (a : Answered T) → fee k a ≤ 25 + 40 * k
+  pub fee_small : (a : Answered T) → fee k a ≤ 17 + 24 * k
   fee_small (Put r) = omega arith
   fee_small (Take r) = omega arith
   fee_small (Fold r) = omega arith

@@ -126,24 +126,24 @@ module _ {T : Type 0} (n laps passes : ℕ) where
     raises = λ s p q u v k at at'. raises_at s q v.line u.line k (line_at s q v v.line at' refl);
   }
 
-  cheap : (l : PoolLine T) → price_in l ≤ 30
+  cheap : (l : PoolLine T) → price_in l ≤ 18
   cheap (Gets from call) = omega arith
   cheap (Goes (At l)) = price_small l
   cheap (Goes (Stock cs)) = omega arith
 
-  left_small : (m : Pool T) (o : Option (PoolPass T)) → left_at (pool_ring waiting n laps passes) (Kept n laps passes) IsGoing weight_in price_in weighs m o ≤ 47
+  left_small : (m : Pool T) (o : Option (PoolPass T)) → left_at (pool_ring waiting n laps passes) (Kept n laps passes) IsGoing weight_in price_in weighs m o ≤ 31
   left_small m none = omega arith
   left_small m (some v) = by_line v.line
     where
-      by_line : (l : PoolLine T) → weight_in m l ≤ 47
+      by_line : (l : PoolLine T) → weight_in m l ≤ 31
       by_line (Gets from call) = omega arith
       by_line (Goes (At l)) = weight_small m.memory l
       by_line (Goes (Stock cs)) = omega arith
 
   pub pool_overtaken : (p : ℕ) (s : PoolState T) (schedule : Schedule (From T)) → Keeps n laps passes s → AtLine IsGoing (get_elem? s.passes p)
-      → own_steps (pool_ring waiting n laps passes) p schedule s ≤ 47 + 30 * others_win (pool_ring waiting n laps passes) p schedule s
+      → own_steps (pool_ring waiting n laps passes) p schedule s ≤ 31 + 18 * others_win (pool_ring waiting n laps passes) p schedule s
   pool_overtaken p s schedule k going =
-      omega (arith, overtaken (pool_ring waiting n laps passes) (Kept n laps passes) IsGoing weight_in price_in weighs 30 cheap p s schedule k.rule going, left_small s.memory (get_elem? s.passes p))
+      omega (arith, overtaken (pool_ring waiting n laps passes) (Kept n laps passes) IsGoing weight_in price_in weighs 18 cheap p s schedule k.rule going, left_small s.memory (get_elem? s.passes p))
 
   -- The acts of a table
 
@@ -212,7 +212,7 @@ module _ {T : Type 0} (n laps passes : ℕ) where
               let there = at_point (ring_on T n laps passes) (cell_ring n laps passes) call_at (running n laps passes) x before now first l k numbers low later earlier cut v e in
               subst (AtLine IsGoing) (sym (at_map goes s.passes x v e)) (subst (λ (u : SeatLine T). IsGoing (Goes u)) (sym there) at_ring)
 
-      later_bound : steps_in x later ≤ 47 + 30 * others_win (cell_ring n laps passes) x (schedule_of call_at later) s
+      later_bound : steps_in x later ≤ 31 + 18 * others_win (cell_ring n laps passes) x (schedule_of call_at later) s
       later_bound =
           let c = compared n laps passes x (schedule_of call_at later) s so_far.left so_far.keeps fresh_later_on in
           omega (

@@ -191,10 +191,10 @@ module _ {T : Type 0} (n laps passes : ℕ) (some_slot : 0 < n) where
   total_work r left ran sound nobody =
       let low : Below r.given ran.acts = below (ring_on T n laps passes) (cell_ring n laps passes) call_at (running n laps passes) r left ran sound nobody in
       let k : ℕ = passes - 1 in
-      let all : IsPaid ran.acts r.works (λ l. cost k (call_in l)) (fee k) (25 + 40 * k) =
+      let all : IsPaid ran.acts r.works (λ l. cost k (call_in l)) (fee k) (17 + 24 * k) =
       is_paid (ring_on T n laps passes) (cell_ring n laps passes) call_at (running n laps passes) r left ran sound nobody (price_of n laps passes k) (fee k) (omega arith)
       (worth n laps passes k some_slot r.given)
-      (paid r.given (schedule_of call_at ran.acts) (fresh_all n laps passes r.given ran.acts low ran.allowed ran.fresh)) (25 + 40 * k) (fee_small k) in
+      (paid r.given (schedule_of call_at ran.acts) (fresh_all n laps passes r.given ran.acts low ran.allowed ran.fresh)) (17 + 24 * k) (fee_small k) in
       let none : in_all is_look ran.acts ≡ 0 = no_looks (ring_on T n laps passes) (cell_ring n laps passes) call_at (running n laps passes) (λ reads. reads) ran.acts ran.proper in
       record {
         prices = all.prices;

@@ -48,13 +48,13 @@ module _ {T : Type 0} where
     abbrev pub state_after : ℕ → Acts (SeatLine T) → State T
     state_after numbers acts = after (cell_ring n laps passes) numbers (schedule_of call_at acts)
 
-    -- Pass x is in an operation with this first line. Between the acts as it was begun and those by now, x has made at most 47 steps, and
-    -- 30 for each exchange of another pass that has succeeded. The machine that ran as the passes did says which have. The same bound
+    -- Pass x is in an operation with this first line. Between the acts as it was begun and those by now, x has made at most 31 steps, and
+    -- 18 for each exchange of another pass that has succeeded. The machine that ran as the passes did says which have. The same bound
     -- holds of the steps from any point of the operation on
     pub record IsBounded (before now : Acts (SeatLine T)) (x : ℕ) (first : SeatLine T) : Type 0 where
       pub since : Acts (SeatLine T)
       pub is : now ≡ since ++ (x, Begins first) ∷ before
       pub bound : (numbers : ℕ) → Below numbers now
-          → steps_in x since ≤ 47 + 30 * others_win (cell_ring n laps passes) x (schedule_of call_at since) (state_after numbers ((x, Begins first) ∷ before))
+          → steps_in x since ≤ 31 + 18 * others_win (cell_ring n laps passes) x (schedule_of call_at since) (state_after numbers ((x, Begins first) ∷ before))
       pub from_any_point : (later earlier : Acts (SeatLine T)) → since ≡ later ++ earlier → (numbers : ℕ) → Below numbers now
-          → steps_in x later ≤ 47 + 30 * others_win (cell_ring n laps passes) x (schedule_of call_at later) (state_after numbers (earlier ++ (x, Begins first) ∷ before))
+          → steps_in x later ≤ 31 + 18 * others_win (cell_ring n laps passes) x (schedule_of call_at later) (state_after numbers (earlier ++ (x, Begins first) ∷ before))

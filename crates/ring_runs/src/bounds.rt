@@ -11,7 +11,7 @@ ghost use Rattle.runs.specs.Runs.{Below, Shows};
 ghost use Rattle.ring_runs.specs.Machine.{cell_ring};
 ghost use Rattle.ring_runs.specs.Bounded.{IsBounded, MeetsRule, call_at, state_after};
 
-/// An operation of a ring that is under way has made at most 47 steps, and 30 for each
+/// An operation of a ring that is under way has made at most 31 steps, and 18 for each
 /// compare-and-swap by which another pass has succeeded since it was begun. So has one that has ended, if each act
 /// of its run does something, as in the run of each whole call.
 pub fn ring_steps_are_bounded<T>()

@@ -12,8 +12,8 @@ ghost use Rattle.ring_runs.specs.Ended.{CallsEnd};
 /// A run of threads on a ring is lock-free (Herlihy 1993, there non-blocking), by number and
 /// without any fairness, if each pass began its operations with a spare cell that was free. Let the
 /// ring be for P passes at once, and take the acts that led to its table, from any point on. Say
-/// that E calls ended in them. Then the passes have made at most `(40 * P + 7) * (E + P)` steps in
-/// them, together. So among any `P * (40 * P + 7) + 1` steps some call ends, for any number of
+/// that E calls ended in them. Then the passes have made at most `(24 * P + 7) * (E + P)` steps in
+/// them, together. So among any `P * (24 * P + 7) + 1` steps some call ends, for any number of
 /// passes in all. For a queue and a stack the same follows from `queue_lock_free` and
 /// `stack_lock_free`, since their acts are schedules of those machines.
 pub fn ring_acts_are_lock_free<T>()

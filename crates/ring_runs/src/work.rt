@@ -9,11 +9,11 @@ ghost use Rattle.ring_runs.specs.Work.{TotalWork};
 
 /// The total work on a ring for P passes at once, if all passes have been joined, for any number of
 /// passes in all. Together they have made at most as many steps as their calls cost:
-/// - a put `40 * P - 26`, a take `35 * P - 20`, a close or a shut `22 * P - 9`,
-/// - a look or a gauge 12, a count 25, a meeting or a note heard 1.
+/// - a put `24 * P - 14`, a take `23 * P - 12`, a close or a shut `14 * P - 5`,
+/// - a look or a gauge 8, a count 17, a meeting or a note heard 1.
 ///
 /// This bound holds for the calls that the root keeps of each joined pass by their answers, and for
-/// those that the acts of the run begin. So they have made at most `40 * P - 15` steps for each
+/// those that the acts of the run begin. So they have made at most `24 * P - 7` steps for each
 /// answer.
 pub fn ring_total_work<T>()
     ensures { (n laps passes : ℕ) (r : RootView T) (left : List T) → 0 < n

@@ -135,8 +135,8 @@ fn a_call_that_is_dropped_at_any_line_drops_its_value_once(rt: HostRuntime) {
             let behind = steps_before(lag).saturating_add(1);
             dropped_take(&rt, rt.alloc(), capacity, lag, behind);
         }
-        dropped_put(&rt, rt.alloc(), capacity, 7, 10);
-        dropped_take(&rt, rt.alloc(), capacity, 7, 11);
+        dropped_put(&rt, rt.alloc(), capacity, LAGS - 1, LAGS + 2);
+        dropped_take(&rt, rt.alloc(), capacity, LAGS - 1, LAGS + 3);
     }
 }
 

@@ -12,7 +12,7 @@ use std::sync::Wait;
 
 /// The largest number of positions between a hint and the end that it names. A walk that has passed
 /// this number of positions moves the hint.
-pub(crate) const LAGS: u64 = 8;
+pub(crate) const LAGS: u64 = 4;
 
 /// The number of steps that a put and a take make before their exchange, and a close and a shut
 /// before they mark a slot. They load the hint, and each slot from there on. A walk that moves the
@@ -21,12 +21,12 @@ pub(crate) fn steps_before(lag: u64) -> u64 {
     if lag < LAGS {
         lag.saturating_add(2)
     } else {
-        12
+        LAGS + 4
     }
 }
 
 /// A ring, the pass that stops, and one more, after a number of values went through. Both hints lag
-/// by that number. If it is eight, a put and a take have stopped for good before they moved the
+/// by that number. If it is `LAGS`, a put and a take have stopped for good before they moved the
 /// hints.
 pub(crate) fn ring_after<R: Abort + Wait>(
     rt: &R,
@@ -44,8 +44,8 @@ pub(crate) fn ring_after<R: Abort + Wait>(
     if lag == LAGS {
         let putter = ring.split(&mut root).expect(rt, "a pass");
         let taker = ring.split(&mut root).expect(rt, "a pass");
-        drop(call_for(rt, &ring, putter, Command::Put(7), 10));
-        drop(call_for(rt, &ring, taker, Command::Take, 10));
+        drop(call_for(rt, &ring, putter, Command::Put(7), LAGS + 2));
+        drop(call_for(rt, &ring, taker, Command::Take, LAGS + 2));
     }
     (ring, stopped, other)
 }
@@ -101,18 +101,18 @@ fn a_put_that_stops_before_its_exchange_is_the_last(rt: HostRuntime) {
     }
 }
 
-// The eighth put moves the hint after its exchange, and stops between the two. Its value is taken,
+// The fourth put moves the hint after its exchange, and stops between the two. Its value is taken,
 // and its number stays.
 #[test]
 fn a_put_that_stops_behind_its_exchange_is_the_first(rt: HostRuntime) {
     for capacity in 1..=3 {
-        let (ring, pass, other) = ring_after(&rt, rt.alloc(), capacity, 7);
-        let put = call_for(&rt, &ring, pass, Command::Put(1_000), 10);
+        let (ring, pass, other) = ring_after(&rt, rt.alloc(), capacity, LAGS - 1);
+        let put = call_for(&rt, &ring, pass, Command::Put(1_000), LAGS + 2);
         let (other, taken) = ring.take(&rt, other);
-        assert!(rt; taken == Ok((1_000, 7)));
-        let other = go_through(&rt, &ring, other, 8, three_laps(capacity));
+        assert!(rt; taken == Ok((1_000, LAGS - 1)));
+        let other = go_through(&rt, &ring, other, LAGS, three_laps(capacity));
         let (_, said) = call_to_the_end(&rt, &ring, put);
-        assert!(rt; said == Reply::Put(Ok(7)));
+        assert!(rt; said == Reply::Put(Ok(LAGS - 1)));
         let (_, taken) = ring.take(&rt, other);
         assert!(rt; taken == Err(TakeRefused::Empty));
     }
@@ -196,7 +196,7 @@ fn a_take_that_stops_behind_its_exchange_has_its_value(rt: HostRuntime) {
             let made = steps_before(lag).saturating_add(1);
             take_stops_behind(&rt, rt.alloc(), capacity, lag, made);
         }
-        take_stops_behind(&rt, rt.alloc(), capacity, 7, 11);
+        take_stops_behind(&rt, rt.alloc(), capacity, LAGS - 1, LAGS + 3);
     }
 }
 

@@ -77,35 +77,35 @@ pub fn ring_linearizable<T>()
         IsLinearizationWithAnyHands (object_with_any_hands n laps) (newer ++ older) → KeepsRealTimeOrder p older }
 {}
 
-/// While no other pass's compare-and-swap succeeds, a ring's call has ended after at most 47 of its
+/// While no other pass's compare-and-swap succeeds, a ring's call has ended after at most 31 of its
 /// own steps. This holds from every state that meets the rule, wherever the call is in it, and so
 /// from every state to which a schedule leads.
 pub fn ring_bound<T>()
     ensures wherever_the_rule_holds { (n laps cells p : ℕ) (s : State T) (stretch : Schedule (Call T)) →
         MeetsRule n laps cells s → IsStretch (ring (shape n laps)) p stretch s →
-        own_steps (ring (shape n laps)) p stretch s ≤ 47 }
+        own_steps (ring (shape n laps)) p stretch s ≤ 31 }
     ensures in_every_schedule { (n laps passes : ℕ) (schedule : Schedule (Call T)) → 0 < n →
         MeetsRule n laps (n + passes) (after (ring (shape n laps)) passes schedule) }
 {}
 
 /// A ring is lock-free (Herlihy 1993, there non-blocking), by number and without any fairness.
 /// Suppose never more than P = 1 + `others` passes are in a call at once, from any state that meets
-/// the rule. If E calls end, the passes make at most (40 * P + 7) * (E + P) steps. So among any
-/// P * (40 * P + 7) + 1 steps after any schedule of P passes, some call ends. From the start, the
-/// passes make in all no more steps than the calls cost that they begin: a put 40 * P - 26, a take
-/// 35 * P - 20, a close or a shut 22 * P - 9, a look or a gauge 12, a count 25.
+/// the rule. If E calls end, the passes make at most (24 * P + 7) * (E + P) steps. So among any
+/// P * (24 * P + 7) + 1 steps after any schedule of P passes, some call ends. From the start, the
+/// passes make in all no more steps than the calls cost that they begin: a put 24 * P - 14, a take
+/// 23 * P - 12, a close or a shut 14 * P - 5, a look or a gauge 8, a count 17.
 ///
-/// A single call has ended after at most 47 of its own steps, and 30 for each compare-and-swap by
+/// A single call has ended after at most 31 of its own steps, and 18 for each compare-and-swap by
 /// which another pass succeeds meanwhile. So a step that does not succeed costs no other pass
-/// anything. While no other pass's compare-and-swap succeeds, 47 steps are enough, however long the
+/// anything. While no other pass's compare-and-swap succeeds, 31 steps are enough, however long the
 /// pass had stopped.
 pub fn ring_lock_free<T>()
     ensures wherever_the_rule_holds { (n laps cells others : ℕ) (s : State T) (schedule : Schedule (Call T)) →
         MeetsRule n laps cells s → AtOnce (ring (shape n laps)) (suc others) schedule s →
         steps_made (ring (shape n laps)) schedule s
-        ≤ (47 + 40 * others) * (calls_ended (ring (shape n laps)) schedule s + suc others) }
+        ≤ (31 + 24 * others) * (calls_ended (ring (shape n laps)) schedule s + suc others) }
     ensures in_every_schedule { (n laps others : ℕ) → 0 < n →
-        LockFree (ring {T = T} (shape n laps)) (suc others) ((47 + 40 * others) * suc others) }
+        LockFree (ring {T = T} (shape n laps)) (suc others) ((31 + 24 * others) * suc others) }
     ensures all_costs { (n laps passes others : ℕ) (schedule : Schedule (Call T)) → 0 < n →
         let s = start (ring (shape n laps)) passes in
         AtOnce (ring (shape n laps)) (suc others) schedule s →
@@ -114,10 +114,10 @@ pub fn ring_lock_free<T>()
     ensures overtaken { (n laps cells p : ℕ) (s : State T) (schedule : Schedule (Call T)) →
         MeetsRule n laps cells s →
         own_steps (ring (shape n laps)) p schedule s
-        ≤ 47 + 30 * others_win (ring (shape n laps)) p schedule s }
+        ≤ 31 + 18 * others_win (ring (shape n laps)) p schedule s }
     ensures unhindered { (n laps cells p : ℕ) (s : State T) (stretch : Schedule (Call T)) →
         MeetsRule n laps cells s → IsStretch (ring (shape n laps)) p stretch s →
-        own_steps (ring (shape n laps)) p stretch s ≤ 47 }
+        own_steps (ring (shape n laps)) p stretch s ≤ 31 }
 {}
 
 /// In every schedule of a ring, the values that were put are, in the order of the puts, those that

@@ -54,7 +54,7 @@ pub fn ring_near_misses()
     ensures number_again_unlawful { ¬ Lawful ℕ 2 2 3 number_again }
     ensures put_late_unlawful { ¬ Lawful ℕ 2 2 4 put_late }
     ensures taken_early_unlawful { ¬ Lawful ℕ 2 2 3 taken_early }
-    ensures slot_left_out_unlawful { ¬ Lawful ℕ 10 1 11 slot_left_out }
+    ensures slot_left_out_unlawful { ¬ Lawful ℕ 6 1 7 slot_left_out }
     ensures closed_full_unlawful { ¬ Lawful ℕ 1 2 2 closed_full }
     ensures put_after_close_unlawful { ¬ Lawful ℕ 1 2 3 put_after_close }
     ensures take_after_shut_unlawful { ¬ Lawful ℕ 1 2 3 take_after_shut }
@@ -79,7 +79,7 @@ pub fn ring_near_misses()
     ensures second_cell_refused { ¬ IsLinearization (object 2 1) second_cell }
     ensures full_of_its_own_refused { ¬ IsLinearization (object 1 1) full_of_its_own }
     // A near miss that is not lock-free: two passes make each other fail, round after round.
-    ensures starving_not_lock_free { ¬ LockFree (ring_with spoils_where_it_lost (shape 1 1)) 2 ((47 + 40 * 1) * 2) }
+    ensures starving_not_lock_free { ¬ LockFree (ring_with spoils_where_it_lost (shape 1 1)) 2 ((31 + 24 * 1) * 2) }
     ensures starving_not_unhindered { let machine = ring_with spoils_where_it_lost (shape 1 1) in
-        ¬ (own_steps machine 0 (in_turn 24) starving ≤ 47 + 30 * others_win machine 0 (in_turn 24) starving) }
+        ¬ (own_steps machine 0 (in_turn 16) starving ≤ 31 + 18 * others_win machine 0 (in_turn 16) starving) }
 {}

@@ -19,7 +19,7 @@ use running::{Access, Next, Outcome, raised};
 use tagged_index::Tagged;
 
 /// A walk passes fewer positions than this, and then moves the hint.
-pub(crate) const STRIDE: u32 = 8;
+pub(crate) const STRIDE: u32 = 4;
 
 /// The next step of a walk.
 #[derive(Clone, Copy)]

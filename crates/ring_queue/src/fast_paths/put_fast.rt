@@ -77,7 +77,7 @@ fn put_fast_end<T>(
     }
 }
 
-// One put in eight moves the tail as well.
+// One put in four moves the tail as well.
 #[inline]
 fn put_fast_pass<T>(
     on: &RingQueue<T>,

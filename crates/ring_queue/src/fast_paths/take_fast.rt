@@ -107,7 +107,7 @@ fn take_fast_exchange<T>(
     any(&on.table.shared, on, by, TakeAt::Exchange(end), take)
 }
 
-// The move of the head, which follows one take in eight.
+// The move of the head, which follows one take in four.
 #[inline]
 fn take_fast_pass<T>(
     on: &RingQueue<T>,

@@ -24,8 +24,8 @@ use Rattle.step_core.proofs.ring.Run.{Rule, Story, starts_busy, ring_told, run_m
 use Rattle.step_core.proofs.ring.Weight.{weight, price, harm, lag_small, late_small, weight_small, harm_small, price_small}
 use Rattle.step_core.proofs.ring.Pays.{step_raises, step_falls}
 
-sums : (w h k : ℕ) → w ≤ 47 → h ≤ 40 → w + h * k ≤ 47 + 40 * k
-sums w h k le le' = omega (arith, le, mul-le-mul_right {m = h} {n = 40} k le')
+sums : (w h k : ℕ) → w ≤ 31 → h ≤ 24 → w + h * k ≤ 31 + 24 * k
+sums w h k le le' = omega (arith, le, mul-le-mul_right {m = h} {n = 24} k le')
 
 module _ {T : Type 0} (n laps cells : ℕ) where
   abbrev pub Rules : State T → Type 0
@@ -64,43 +64,43 @@ module _ {T : Type 0} (n laps cells : ℕ) where
     pays = λ s p v k at busy. (step_falls k p p v.line (line_at s p v at) busy).1;
   }
 
-  pub call_small : (k : ℕ) (call : Call T) → cost k call ≤ 47 + 40 * k
+  pub call_small : (k : ℕ) (call : Call T) → cost k call ≤ 31 + 24 * k
   call_small k call = sums (alone call) (harms call) k (lone call) (harmful call)
     where
-      lone : (call : Call T) → alone call ≤ 47
+      lone : (call : Call T) → alone call ≤ 31
       lone (CallPut v) = omega arith
       lone call = omega arith
 
-      harmful : (call : Call T) → harms call ≤ 40
+      harmful : (call : Call T) → harms call ≤ 24
       harmful (CallPut v) = omega arith
       harmful call = omega arith
 
-  pub pass_small : (k : ℕ) (s : State T) (q : ℕ) (u : Pass T) → get_elem? s.passes q ≡ some u → weight s.memory u.line + harm u.line * k ≤ 47 + 40 * k
+  pub pass_small : (k : ℕ) (s : State T) (q : ℕ) (u : Pass T) → get_elem? s.passes q ≡ some u → weight s.memory u.line + harm u.line * k ≤ 31 + 24 * k
   pass_small k s q u at = sums (weight s.memory u.line) (harm u.line) k (weight_small s.memory u.line) (harm_small u.line)
 
   pub ring_ends : (k : ℕ) (s : State T) (schedule : Schedule (Call T)) → MeetsRule n laps cells s → AtOnce (ring (shape n laps)) (suc k) schedule s
-      → steps_made (ring (shape n laps)) schedule s ≤ (47 + 40 * k) * (calls_ended (ring (shape n laps)) schedule s + suc k)
+      → steps_made (ring (shape n laps)) schedule s ≤ (31 + 24 * k) * (calls_ended (ring (shape n laps)) schedule s + suc k)
   ring_ends k s schedule rules few =
-      calls_end (ring (shape n laps)) Rules weight price harm alone harms ring_pays k AnyCall (47 + 40 * k) (λ call any. call_small k call) s rules (pass_small k s) schedule (any_call schedule) few
+      calls_end (ring (shape n laps)) Rules weight price harm alone harms ring_pays k AnyCall (31 + 24 * k) (λ call any. call_small k call) s rules (pass_small k s) schedule (any_call schedule) few
 
-  left_small : (m : Memory T) (o : Option (Pass T)) → left_at (ring (shape n laps)) Rules AnyLine weight price weighs m o ≤ 47
+  left_small : (m : Memory T) (o : Option (Pass T)) → left_at (ring (shape n laps)) Rules AnyLine weight price weighs m o ≤ 31
   left_small m none = omega arith
   left_small m (some v) = weight_small m v.line
 
   pub ring_overtaken : (p : ℕ) (s : State T) (schedule : Schedule (Call T)) → MeetsRule n laps cells s
-      → own_steps (ring (shape n laps)) p schedule s ≤ 47 + 30 * others_win (ring (shape n laps)) p schedule s
+      → own_steps (ring (shape n laps)) p schedule s ≤ 31 + 18 * others_win (ring (shape n laps)) p schedule s
   ring_overtaken p s schedule rules =
-      omega (arith, overtaken (ring (shape n laps)) Rules AnyLine weight price weighs 30 price_small p s schedule rules (any_line (get_elem? s.passes p)), left_small s.memory (get_elem? s.passes p))
+      omega (arith, overtaken (ring (shape n laps)) Rules AnyLine weight price weighs 18 price_small p s schedule rules (any_line (get_elem? s.passes p)), left_small s.memory (get_elem? s.passes p))
 
-  pub ring_unhindered : (p : ℕ) (s : State T) (stretch : Schedule (Call T)) → MeetsRule n laps cells s → IsStretch (ring (shape n laps)) p stretch s → own_steps (ring (shape n laps)) p stretch s ≤ 47
+  pub ring_unhindered : (p : ℕ) (s : State T) (stretch : Schedule (Call T)) → MeetsRule n laps cells s → IsStretch (ring (shape n laps)) p stretch s → own_steps (ring (shape n laps)) p stretch s ≤ 31
   ring_unhindered p s stretch rules alone =
-      omega (arith, unhindered (ring (shape n laps)) Rules AnyLine weight price weighs 30 price_small p s stretch rules (any_line (get_elem? s.passes p)) alone, left_small s.memory (get_elem? s.passes p))
+      omega (arith, unhindered (ring (shape n laps)) Rules AnyLine weight price weighs 18 price_small p s stretch rules (any_line (get_elem? s.passes p)) alone, left_small s.memory (get_elem? s.passes p))
 
 module _ {T : Type 0} (n laps : ℕ) where
-  pub ring_lock_free : (k : ℕ) → 0 < n → LockFree (ring {T = T} (shape n laps)) (suc k) ((47 + 40 * k) * suc k)
+  pub ring_lock_free : (k : ℕ) → 0 < n → LockFree (ring {T = T} (shape n laps)) (suc k) ((31 + 24 * k) * suc k)
   ring_lock_free k pos before during =
       let s = after (ring {T = T} (shape n laps)) (suc k) before in
-      some_ends (ring (shape n laps)) (Rules n laps (n + suc k)) weight price harm alone harms (ring_pays n laps (n + suc k)) k AnyCall (47 + 40 * k) (λ call any. call_small n laps (n + suc k) k call) s
+      some_ends (ring (shape n laps)) (Rules n laps (n + suc k)) weight price harm alone harms (ring_pays n laps (n + suc k)) k AnyCall (31 + 24 * k) (λ call any. call_small n laps (n + suc k) k call) s
       (run_meets n laps (suc k) before pos) (pass_small n laps (n + suc k) k s) during (any_call during) (passes_after (ring (shape n laps)) (suc k) before)
 
   -- from the start: all that is spent is what the calls cost that are begun

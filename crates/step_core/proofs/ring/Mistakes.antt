@@ -70,8 +70,8 @@ unshut_again-unlawful law =
 pub above_limit-unlawful : ¬ Lawful ℕ 1 1 2 above_limit
 above_limit-unlawful law = let small : 3 ≤ 2 * 1 = law.represents.turned.within 0 (omega arith) in absurd (omega (arith, small))
 
-pub slot_left_out-unlawful : ¬ Lawful ℕ 10 1 11 slot_left_out
-slot_left_out-unlawful law = let number : 9 ≡ 8 = law.legal.0.3 in absurd (omega (arith, number))
+pub slot_left_out-unlawful : ¬ Lawful ℕ 6 1 7 slot_left_out
+slot_left_out-unlawful law = let number : 5 ≡ 4 = law.legal.0.3 in absurd (omega (arith, number))
 
 abbrev put_full : Answer ℕ
 put_full = AnswerPut (Err (Full 11))

@@ -23,7 +23,7 @@ was_emptied slot w = ltb (full_at w.tag) (slot w.index).tag
 unfoldable pub walking : Bool → ℕ → ℕ → ℕ → ℕ
 walking passed gone rest turn = cond passed (stride - gone + 3 + turn + rest) (1 + turn)
 
-pub walking_small : (b : Bool) (gone rest turn : ℕ) → walking b gone rest turn ≤ 11 + turn + rest
+pub walking_small : (b : Bool) (gone rest turn : ℕ) → walking b gone rest turn ≤ 7 + turn + rest
 unfolding walking
 walking_small true gone rest turn = omega arith
 walking_small false gone rest turn = omega arith
@@ -46,7 +46,7 @@ pub walking_here : (gone rest turn : ℕ) → walking false gone rest turn ≡ 1
 unfolding walking
 walking_here gone rest turn = refl
 
-pub walking_begins : (b : Bool) (rest turn : ℕ) → rest ≡ 0 → walking b 0 rest turn < 2 + turn + lost (not b) 10
+pub walking_begins : (b : Bool) (rest turn : ℕ) → rest ≡ 0 → walking b 0 rest turn < 2 + turn + lost (not b) 6
 unfolding walking lost
 walking_begins true rest turn h = omega (arith, h)
 walking_begins false rest turn h = omega arith
@@ -71,12 +71,12 @@ front_turn_grows g g' ToLook h = omega arith
 front_turn_grows g g' ToCountFrom h = omega (arith, h)
 
 abbrev pub front_harm : Front → ℕ
-front_harm ToTake = 35
-front_harm ToShut = 22
+front_harm ToTake = 23
+front_harm ToShut = 14
 front_harm ToLook = 0
 front_harm ToCountFrom = 0
 
-front_harm_small : (s : Front) → front_harm s ≤ 40
+front_harm_small : (s : Front) → front_harm s ≤ 24
 front_harm_small ToTake = omega arith
 front_harm_small ToShut = omega arith
 front_harm_small ToLook = omega arith
@@ -85,10 +85,10 @@ front_harm_small ToCountFrom = omega arith
 module _ {T : Type 0} where
   -- what a hint that lags costs who begins at it
   abbrev pub lag : Memory T → ℕ
-  lag m = lost (not (was_filled m.slot m.tail)) 10
+  lag m = lost (not (was_filled m.slot m.tail)) 6
 
   abbrev pub late : Memory T → ℕ
-  late m = lost (not (was_emptied m.slot m.head)) 10
+  late m = lost (not (was_emptied m.slot m.head)) 6
 
   -- how many steps are left where the back, or the front, was found, and no other pass is in the way
   abbrev pub turn : (ℕ → Tagged) → ℕ → ℕ → Back T → ℕ
@@ -103,16 +103,16 @@ module _ {T : Type 0} where
   weight_of head tail slot g e (LoadTail c s) = 2 + turn slot g e s + g
   weight_of head tail slot g e (LoadBack w s) = walking (was_filled slot w.at) w.gone (lost (same tail w.from) g) (turn slot g e s)
   weight_of head tail slot g e (MoveTail w s) = 3 + turn slot g e s + lost (same tail w.from) g
-  weight_of head tail slot g e (PutCell w v y) = 2 + lost (same (slot w.at.index) y) 22
+  weight_of head tail slot g e (PutCell w v y) = 2 + lost (same (slot w.at.index) y) 14
   weight_of head tail slot g e (PassTail w) = 1
-  weight_of head tail slot g e (MarkBack w y) = 1 + lost (same (slot w.at.index) y) 22
+  weight_of head tail slot g e (MarkBack w y) = 1 + lost (same (slot w.at.index) y) 14
   weight_of head tail slot g e (LoadHead c s) = 2 + front_turn g s + e
   weight_of head tail slot g e (LoadFront w s) = walking (was_emptied slot w.at) w.gone (lost (same head w.from) e) (front_turn g s)
   weight_of head tail slot g e (MoveHead w s) = 3 + front_turn g s + lost (same head w.from) e
-  weight_of head tail slot g e (TakeCell w y) = 3 + lost (same (slot w.at.index) y) 22
+  weight_of head tail slot g e (TakeCell w y) = 3 + lost (same (slot w.at.index) y) 14
   weight_of head tail slot g e (PassHead w v) = 2
   weight_of head tail slot g e (Stow w a) = 1
-  weight_of head tail slot g e (ShutFront w y) = 1 + lost (same (slot w.at.index) y) 22
+  weight_of head tail slot g e (ShutFront w y) = 1 + lost (same (slot w.at.index) y) 14
   weight_of head tail slot g e (CheckFront c front back) = turn slot g e (ToCount front)
 
   abbrev pub weight : Memory T → Line T → ℕ
@@ -120,37 +120,37 @@ module _ {T : Type 0} where
 
   -- what an exchange costs another line where it is won. One that moves a hint as far as it may go costs nobody
   abbrev pub price : Line T → ℕ
-  price (PutCell w v y) = 30
-  price (PassTail w) = 10
-  price (MarkBack w y) = 22
-  price (TakeCell w y) = 25
-  price (PassHead w v) = 10
-  price (ShutFront w y) = 22
+  price (PutCell w v y) = 18
+  price (PassTail w) = 6
+  price (MarkBack w y) = 14
+  price (TakeCell w y) = 17
+  price (PassHead w v) = 6
+  price (ShutFront w y) = 14
   price l = 0
 
   -- and what the call may still cost another line
   abbrev pub back_harm : Back T → ℕ
-  back_harm (ToPut v) = 40
-  back_harm ToClose = 22
+  back_harm (ToPut v) = 24
+  back_harm ToClose = 14
   back_harm (ToCount front) = 0
   back_harm ToGauge = 0
 
   abbrev pub harm : Line T → ℕ
   harm (Idle c a) = 0
-  harm (FetchTail c v) = 40
+  harm (FetchTail c v) = 24
   harm (LoadTail c s) = back_harm s
   harm (LoadBack w s) = back_harm s
   harm (MoveTail w s) = back_harm s
-  harm (PutCell w v y) = 40
-  harm (PassTail w) = 10
-  harm (MarkBack w y) = 22
+  harm (PutCell w v y) = 24
+  harm (PassTail w) = 6
+  harm (MarkBack w y) = 14
   harm (LoadHead c s) = front_harm s
   harm (LoadFront w s) = front_harm s
   harm (MoveHead w s) = front_harm s
-  harm (TakeCell w y) = 35
-  harm (PassHead w v) = 10
+  harm (TakeCell w y) = 23
+  harm (PassHead w v) = 6
   harm (Stow w a) = 0
-  harm (ShutFront w y) = 22
+  harm (ShutFront w y) = 14
   harm (CheckFront c front back) = 0
 
 module _ {T : Type 0} where
@@ -160,17 +160,17 @@ module _ {T : Type 0} where
   turn_small slot g e (ToCount front) = omega (arith, lost_small (not (was_emptied slot front)) (5 + g + e))
   turn_small slot g e ToGauge = omega arith
 
-  back_harm_small : (s : Back T) → back_harm s ≤ 40
+  back_harm_small : (s : Back T) → back_harm s ≤ 24
   back_harm_small (ToPut v) = omega arith
   back_harm_small ToClose = omega arith
   back_harm_small (ToCount front) = omega arith
   back_harm_small ToGauge = omega arith
 
-  pub lag_small : (m : Memory T) → lag m ≤ 10
-  lag_small m = lost_small (not (was_filled m.slot m.tail)) 10
+  pub lag_small : (m : Memory T) → lag m ≤ 6
+  lag_small m = lost_small (not (was_filled m.slot m.tail)) 6
 
-  pub late_small : (m : Memory T) → late m ≤ 10
-  late_small m = lost_small (not (was_emptied m.slot m.head)) 10
+  pub late_small : (m : Memory T) → late m ≤ 6
+  late_small m = lost_small (not (was_emptied m.slot m.head)) 6
 
   -- where hints lag less, no step of a call to the back, or to the front, is left more
   pub turn_grows : (slot : ℕ → Tagged) (g e g' e' : ℕ) (s : Back T) → g ≤ g' → e ≤ e' → turn slot g e s ≤ turn slot g' e' s
@@ -217,7 +217,7 @@ module _ {T : Type 0} where
   head_raise head head' tail slot g e (ShutFront w y) = omega arith
   head_raise head head' tail slot g e (CheckFront c front back) = turn_grows slot g 0 g e (ToCount front) (omega arith) (omega arith)
 
-  pub weight_small : (m : Memory T) (l : Line T) → weight m l ≤ 47
+  pub weight_small : (m : Memory T) (l : Line T) → weight m l ≤ 31
   weight_small m (Idle c a) = omega arith
   weight_small m (FetchTail c v) = omega (arith, lag_small m)
   weight_small m (LoadTail c s) = omega (arith, lag_small m, late_small m, turn_small m.slot (lag m) (late m) s)
@@ -225,21 +225,21 @@ module _ {T : Type 0} where
       let r = lost (same m.tail w.from) (lag m) in
       omega (arith, lag_small m, late_small m, turn_small m.slot (lag m) (late m) s, walking_small (was_filled m.slot w.at) w.gone r (turn m.slot (lag m) (late m) s), lost_small (same m.tail w.from) (lag m))
   weight_small m (MoveTail w s) = omega (arith, lag_small m, late_small m, turn_small m.slot (lag m) (late m) s, lost_small (same m.tail w.from) (lag m))
-  weight_small m (PutCell w v y) = omega (arith, lost_small (same (m.slot w.at.index) y) 22)
+  weight_small m (PutCell w v y) = omega (arith, lost_small (same (m.slot w.at.index) y) 14)
   weight_small m (PassTail w) = omega arith
-  weight_small m (MarkBack w y) = omega (arith, lost_small (same (m.slot w.at.index) y) 22)
+  weight_small m (MarkBack w y) = omega (arith, lost_small (same (m.slot w.at.index) y) 14)
   weight_small m (LoadHead c s) = omega (arith, lag_small m, late_small m, front_turn_small (lag m) s)
   weight_small m (LoadFront w s) =
       let r = lost (same m.head w.from) (late m) in
       omega (arith, lag_small m, late_small m, front_turn_small (lag m) s, walking_small (was_emptied m.slot w.at) w.gone r (front_turn (lag m) s), lost_small (same m.head w.from) (late m))
   weight_small m (MoveHead w s) = omega (arith, lag_small m, late_small m, front_turn_small (lag m) s, lost_small (same m.head w.from) (late m))
-  weight_small m (TakeCell w y) = omega (arith, lost_small (same (m.slot w.at.index) y) 22)
+  weight_small m (TakeCell w y) = omega (arith, lost_small (same (m.slot w.at.index) y) 14)
   weight_small m (PassHead w v) = omega arith
   weight_small m (Stow w a) = omega arith
-  weight_small m (ShutFront w y) = omega (arith, lost_small (same (m.slot w.at.index) y) 22)
+  weight_small m (ShutFront w y) = omega (arith, lost_small (same (m.slot w.at.index) y) 14)
   weight_small m (CheckFront c front back) = omega (arith, lag_small m, late_small m, turn_small m.slot (lag m) (late m) (ToCount front))
 
-  pub harm_small : (l : Line T) → harm l ≤ 40
+  pub harm_small : (l : Line T) → harm l ≤ 24
   harm_small (Idle c a) = omega arith
   harm_small (FetchTail c v) = omega arith
   harm_small (LoadTail c s) = back_harm_small s
@@ -257,6 +257,6 @@ module _ {T : Type 0} where
   harm_small (ShutFront w y) = omega arith
   harm_small (CheckFront c front back) = omega arith
 
-  pub price_small : (l : Line T) → price l ≤ 30
+  pub price_small : (l : Line T) → price l ≤ 18
   price_small (Idle c a) = omega arith
   price_small l = omega arith

@@ -58,15 +58,15 @@ stale_take-not_linearizable l = stale (object_with_any_hands 1 1) 10 no_value pu
     was_put p (CallPut v) newer older r = ⊎_elim (λ s. absurd s) (λ m. (v ∷ [], subst (λ (e : Event ℕ). Among e newer) m.1.0 m.1.1)) r
     was_put p call newer older r = absurd (⊎_elim (λ s. s) (λ m. m.1.0) r)
 
-pub starving-not_lock_free : ¬ LockFree (ring_with spoils_where_it_lost (shape 1 1)) 2 ((47 + 40 * 1) * 2)
+pub starving-not_lock_free : ¬ LockFree (ring_with spoils_where_it_lost (shape 1 1)) 2 ((31 + 24 * 1) * 2)
 starving-not_lock_free free =
-    let made : steps_made (ring_with spoils_where_it_lost (shape 1 1)) (in_turn 44) starving ≡ 176 = refl in
-    let ended : calls_ended (ring_with spoils_where_it_lost (shape 1 1)) (in_turn 44) starving ≡ 0 = refl in
-    absurd (omega (arith, ended, free both_have_read (in_turn 44) (omega (arith, made))))
+    let made : steps_made (ring_with spoils_where_it_lost (shape 1 1)) (in_turn 28) starving ≡ 112 = refl in
+    let ended : calls_ended (ring_with spoils_where_it_lost (shape 1 1)) (in_turn 28) starving ≡ 0 = refl in
+    absurd (omega (arith, ended, free both_have_read (in_turn 28) (omega (arith, made))))
 
 pub starving-not_unhindered :
-    (let machine = ring_with spoils_where_it_lost (shape 1 1) in ¬ (own_steps machine 0 (in_turn 24) starving ≤ 47 + 30 * others_win machine 0 (in_turn 24) starving))
+    (let machine = ring_with spoils_where_it_lost (shape 1 1) in ¬ (own_steps machine 0 (in_turn 16) starving ≤ 31 + 18 * others_win machine 0 (in_turn 16) starving))
 starving-not_unhindered few =
-    let made : own_steps (ring_with spoils_where_it_lost (shape 1 1)) 0 (in_turn 24) starving ≡ 48 = refl in
-    let won : others_win (ring_with spoils_where_it_lost (shape 1 1)) 0 (in_turn 24) starving ≡ 0 = refl in
+    let made : own_steps (ring_with spoils_where_it_lost (shape 1 1)) 0 (in_turn 16) starving ≡ 32 = refl in
+    let won : others_win (ring_with spoils_where_it_lost (shape 1 1)) 0 (in_turn 16) starving ≡ 0 = refl in
     absurd (omega (arith, few, made, won))

@@ -6,20 +6,20 @@ use Rattle.ring_machine.specs.declared.lines.Call.TheVariants.{Put as CallPut, T
 module _ {T : Type 0} where
   -- how many steps a call makes at most while no other pass wins an exchange
   abbrev pub alone : Call T → ℕ
-  alone (CallPut v) = 14
-  alone CallTake = 15
-  alone CallClose = 13
-  alone CallShut = 13
-  alone CallLook = 12
-  alone CallLen = 25
-  alone CallGauge = 12
+  alone (CallPut v) = 10
+  alone CallTake = 11
+  alone CallClose = 9
+  alone CallShut = 9
+  alone CallLook = 8
+  alone CallLen = 17
+  alone CallGauge = 8
 
   -- how many steps of another pass its exchanges can make vain
   abbrev pub harms : Call T → ℕ
-  harms (CallPut v) = 40
-  harms CallTake = 35
-  harms CallClose = 22
-  harms CallShut = 22
+  harms (CallPut v) = 24
+  harms CallTake = 23
+  harms CallClose = 14
+  harms CallShut = 14
   harms CallLook = 0
   harms CallLen = 0
   harms CallGauge = 0

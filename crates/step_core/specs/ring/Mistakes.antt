@@ -81,10 +81,10 @@ passes_back s m p l = step s m p l
 -- this number of puts
 abbrev pub puts : ℕ → Schedule (Call ℕ)
 puts zero = []
-puts (suc k) = begins 0 (CallPut 10) 11 ++ puts k
+puts (suc k) = begins 0 (CallPut 10) 7 ++ puts k
 
 abbrev pub slot_left_out : State ℕ
-slot_left_out = after (ring_with passes_back (shape 10 1)) 1 (puts 9)
+slot_left_out = after (ring_with passes_back (shape 6 1)) 1 (puts 5)
 
 -- A close marks empty slots only, and the back's slot of a full ring is not empty: a put follows the close
 abbrev pub marks_empty_only : Moves

@@ -12,7 +12,7 @@ returns-clause-tried g c =
     let begun = c.begin_put.ensures in
     let op = c.begin_put.result in
     let some = some_made (machine_of ring) (going (machine_of ring) (put_account ring.table.shared.key) ring.table.shared.table_id op begun.makes.under_way) in
-    put_tried ring c.args.value _ (some.0 + 48) op begun.makes (ap (λ u. u.begun) begun.begun) c.step_for.result (c.step_for.ensures some.0 (record { under_way = begun.makes.under_way; made = some.1 }))
+    put_tried ring c.args.value _ (some.0 + 32) op begun.makes (ap (λ u. u.begun) begun.begun) c.step_for.result (c.step_for.ensures some.0 (record { under_way = begun.makes.under_way; made = some.1 }))
 
 pub returns-clause-overtaken : goal.returns-clause-overtaken
 returns-clause-overtaken g c =

@@ -12,7 +12,7 @@ returns-clause-tried g c =
     let begun = c.begin_take.ensures in
     let op = c.begin_take.result in
     let some = some_made (machine_of ring) (going (machine_of ring) (take_account ring.table.shared.key) ring.table.shared.table_id op begun.makes.under_way) in
-    take_tried ring _ (some.0 + 48) op begun.makes (ap (λ u. u.begun) begun.begun) c.step_for.result (c.step_for.ensures some.0 (record { under_way = begun.makes.under_way; made = some.1 }))
+    take_tried ring _ (some.0 + 32) op begun.makes (ap (λ u. u.begun) begun.begun) c.step_for.result (c.step_for.ensures some.0 (record { under_way = begun.makes.under_way; made = some.1 }))
 
 pub returns-clause-overtaken : goal.returns-clause-overtaken
 returns-clause-overtaken g c =
