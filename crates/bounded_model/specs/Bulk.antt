@@ -1,14 +1,17 @@
 -- A call that puts or takes many values by one exchange.
 use Rattle.std.specs.Prelude.{◌≡◌, ◌⊎◌, ℕ, ◌<◌, ◌≤◌, ◌++◌, List, [], ◌∷◌, length, take, drop, replicate, Option as Slot, Some, None, Result, Ok, Err}
+use Rattle.bounded_model.specs.declared.answers.PutRefused.TheVariants.{Full as FullOf, Closed as ClosedTo, Spent as SpentFor}
 use Rattle.bounded_model.specs.declared.answers.TakeRefused.{TakeRefused}
 use Rattle.bounded_model.specs.declared.bulk.Ranged.{Ranged}
 use Rattle.bounded_model.specs.declared.bulk.RangeRefused.{RangeRefused}
 use Rattle.bounded_model.specs.declared.bulk.RangeRefused.TheVariants.{Nothing, Full, Closed, Spent}
 use Rattle.bounded_model.specs.declared.bulk.Folded.{Folded}
 use Rattle.bounded_model.specs.declared.history.Event.{Event}
+use Rattle.bounded_model.specs.declared.views.Answered.TheVariants.{Fold as FoldAnswered, Put as PutAnswered}
+use Rattle.bounded_model.specs.declared.views.PassView.{PassView}
 use Rattle.bounded_model.specs.Machine.{Shape, state}
 use Rattle.bounded_model.specs.Justified.{Sometime, Justified, IsFull, PutFull, PutClosed, PutSpent}
-use Rattle.bounded_model.specs.Laws.{Call, Adds, BacksOut, TakesNothing, RangeGives, FoldGives}
+use Rattle.bounded_model.specs.Laws.{Call, Adds, Answers, BacksOut, TakesNothing, RangeGives, FoldGives}
 
 -- Puts of a range
 
@@ -43,6 +46,15 @@ abbrev pub PutsRange : {T : Type 0} → Call T → List (Slot T) → List (Slot 
 PutsRange call old new (Ok r) = PutsFront call old new r
 PutsRange call old new (Err why) = (new ≡ old) × PutsNone call (length old) why
 
+-- The pass, which was v and is w, keeps one answer more of a put of these values: the number, or the refusal with all of them. An empty
+-- range is no call, and its pass is as it was
+abbrev pub RangeAnswers : {T : Type 0} → List T → Result Ranged RangeRefused → PassView T → PassView T → Type 0
+RangeAnswers vs (Ok r) v w = Answers v w (PutAnswered (Ok r.number))
+RangeAnswers vs (Err Nothing) v w = w ≡ v
+RangeAnswers vs (Err Full) v w = Answers v w (PutAnswered (Err (FullOf vs)))
+RangeAnswers vs (Err Closed) v w = Answers v w (PutAnswered (Err (ClosedTo vs)))
+RangeAnswers vs (Err (Spent word t)) v w = Answers v w (PutAnswered (Err (SpentFor vs word t)))
+
 -- Folds of all values
 
 -- all values were taken at once and their cells given back at once, and the fold did with them what
@@ -50,3 +62,8 @@ PutsRange call old new (Err why) = (new ≡ old) × PutsNone call (length old) w
 abbrev pub FoldsAll : {T : Type 0} → Call T → (List T → Type 0) → Type 0 → Result Folded TakeRefused → Type 0
 FoldsAll {T} k folds unchanged (Ok r) = (values : List T) × FoldGives k.from k.to values r.number × (r.count ≡ length values) × folds values
 FoldsAll k folds unchanged (Err why) = TakesNothing k.shape k.from k.to why × unchanged
+
+-- the pass, which was v and is w, keeps one answer more: the values of its take, in the order in which it folded them, or the refusal
+abbrev pub FoldAnswers : {T : Type 0} → (List T → List T) → Result Folded TakeRefused → PassView T → PassView T → Type 0
+FoldAnswers {T} order (Ok r) v w = (values : List T) × FoldGives v w values r.number × Answers v w (FoldAnswered (Ok (order values, r.number)))
+FoldAnswers order (Err why) v w = Answers v w (FoldAnswered (Err why))

@@ -3,7 +3,7 @@
 ghost use Rattle.std.specs.Prelude.{◌≡◌, reverse, IsSome};
 ghost use Rattle.std.specs.List.{AllByRecursion as Every};
 ghost use Rattle.bounded_model.specs.Consumes.{Folds};
-ghost use Rattle.bounded_model.specs.Bulk.{PutsRange, FoldsAll};
+ghost use Rattle.bounded_model.specs.Bulk.{PutsRange, RangeAnswers, FoldsAll, FoldAnswers, somes};
 
 use crate::{Stepwise, TakeRefused, Word};
 use std::sync::Wait;
@@ -61,7 +61,9 @@ pub trait Bulk<T>: Stepwise<T> {
         ensures of { Self.is_pass self.now result.0 }
         ensures gives { PutsRange
             (record { shape = Self.shape self.now; from = Self.pass by; to = Self.pass result.0 })
-            values.old values.new result.1 };
+            values.old values.new result.1 }
+        ensures answered { RangeAnswers (somes values.old) result.1
+            (Self.pass by) (Self.pass result.0) };
 
     /// Takes all values by one compare-and-swap, and folds them in the order in which takes would
     /// give them. Returns the last state. If the fold is refused, it takes nothing and returns the
@@ -79,7 +81,9 @@ pub trait Bulk<T>: Stepwise<T> {
         ensures gives { FoldsAll
             (record { shape = Self.shape self.now; from = Self.pass by; to = Self.pass result.0 })
             (λ values. Folds (λ s x t. F.post f s x t) state values result.1)
-            (result.1 ≡ state) result.2 };
+            (result.1 ≡ state) result.2 }
+        ensures answered { FoldAnswers (λ values. values) result.2
+            (Self.pass by) (Self.pass result.0) };
 
     /// Like `fold_all_atomic`, but folds the values in the opposite order. Called in
     /// `example_stack`.
@@ -96,5 +100,7 @@ pub trait Bulk<T>: Stepwise<T> {
         ensures gives { FoldsAll
             (record { shape = Self.shape self.now; from = Self.pass by; to = Self.pass result.0 })
             (λ values. Folds (λ s x t. F.post f s x t) state (reverse values) result.1)
-            (result.1 ≡ state) result.2 };
+            (result.1 ≡ state) result.2 }
+        ensures answered { FoldAnswers reverse result.2
+            (Self.pass by) (Self.pass result.0) };
 }

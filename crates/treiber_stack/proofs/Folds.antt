@@ -6,6 +6,7 @@ use Rattle.bounded_model.specs.declared.answers.TakeRefused.TheVariants.{Shut}
 use Rattle.bounded_model.specs.declared.history.Event.TheVariants.{TakeAll as TakeAllEvent, Free}
 use Rattle.bounded_model.specs.declared.views.Answered.TheVariants.{Fold as FoldAnswered}
 use Rattle.bounded_model.specs.declared.views.PassView.{PassView}
+use Rattle.bounded_model.specs.Bulk.{FoldAnswers}
 use Rattle.bounded_model.specs.Histories.{own}
 use Rattle.bounded_model.specs.Consumes.{Folds}
 use Rattle.bounded_model.specs.Laws.{Answers, TakesNothing, FoldGives}
@@ -16,6 +17,7 @@ use Rattle.stack_machine.specs.declared.lines.Answer.TheVariants.{Fold as Answer
 use Rattle.stack_machine.specs.declared.lines.Call.TheVariants.{Take as CallTake}
 use Rattle.stack_machine.specs.declared.lines.Taking.TheVariants.{Whole}
 use Rattle.stack_machine.specs.declared.lines.Line.{Line}
+use Rattle.stack_machine.specs.Deeds.{in_order}
 use Rattle.stack_machine.specs.Machine.{ends, is_idle}
 use Rattle.stack_machine.proofs.Made.{made_no_fold}
 use Rattle.stack_table.specs.declared.operation.Operation.{Operation}
@@ -42,7 +44,7 @@ use Rattle.treiber_stack.specs.declared.call_parts.giving.Give.{Give}
 use Rattle.treiber_stack.specs.Folding.{fold_account, nodes_of, folded_of, folding, front_of, gone, fold_line, fold_slots, HasReadToFold, FoldTold}
 use Rattle.treiber_stack.specs.FoldOp.{FoldOp, IsFolding, FoldTried}
 use Rattle.treiber_stack.specs.Giving.{GaveTo}
-use Rattle.treiber_stack.specs.Ran.{FoldAnswers, WasRun, WasFolded}
+use Rattle.treiber_stack.specs.Ran.{WasRun, WasFolded}
 use Rattle.treiber_stack.specs.Refusing.{RefusesTake}
 use Rattle.treiber_stack.specs.Stack.{Stack, as_pass, room_of, limit_of, machine_of, shape_of, begun_of, IsAt}
 use Rattle.treiber_stack.specs.KeepsAnswers.{adds_of}
@@ -124,18 +126,27 @@ module _ {T : Type 0} (c : Stack T) where
           r.1,
         )
 
+    pub all_answered : (b : Batch T) (n : ℕ) → stop ≡ AllGone b n → FoldAnswers (in_order (direction front)) (Ok (record { number = b.number; count = n })) (begun_of c op.pass) (pass_in q)
+    all_answered b n e =
+        let r = (subst (FoldStops front (begun_of c op.pass) q) e stops).1 in
+        let made = r.deeds.made in
+        (made.values, fold_gives c front (folded_of b) b.number r, subst (λ (vs : List T). Answers (begun_of c op.pass) (pass_in q) (FoldAnswered (Ok (vs, b.number)))) made.order r.answered)
+
+    pub none_answered : (why : TakeRefused) → stop ≡ Refused why → FoldAnswers (in_order (direction front)) (Err why) (begun_of c op.pass) (pass_in q)
+    none_answered why e = (subst (FoldStops front (begun_of c op.pass) q) e stops).1.answered
+
     pub all_gone : (b : Batch T) (n : ℕ) → stop ≡ AllGone b n → FoldTried c front values (begun_of c op.pass) (Done' (as_pass q) (Ok (record { number = b.number; count = n })))
     all_gone b n e =
         let r = subst (FoldStops front (begun_of c op.pass) q) e stops in
         let made = r.1.deeds.made in
         let t = subst (FoldTold (room_of c) (limit_of c) (front_of op.at) (gone op.at)) e told in
         let order = sym is.handed ∙ t.0 ∙ made.order in
-        (record { on = r.0; keeps = tt }, (made.values, fold_gives c front (folded_of b) b.number r.1, sym t.1 ∙ ap length is.handed ∙ ap length order ∙ length_in_order (direction front) made.values, order))
+        (record { on = r.0; keeps = tt }, (made.values, fold_gives c front (folded_of b) b.number r.1, sym t.1 ∙ ap length is.handed ∙ ap length order ∙ length_in_order (direction front) made.values, order), all_answered b n e)
 
     pub none_taken : (why : TakeRefused) → stop ≡ Refused why → FoldTried c front values (begun_of c op.pass) (Done' (as_pass q) (Err why))
     none_taken why e =
         let r = subst (FoldStops front (begun_of c op.pass) q) e stops in
-        (record { on = r.0; keeps = tt }, (takes_nothing c front why r.1, sym is.handed ∙ subst (FoldTold (room_of c) (limit_of c) (front_of op.at) (gone op.at)) e told))
+        (record { on = r.0; keeps = tt }, (takes_nothing c front why r.1, sym is.handed ∙ subst (FoldTold (room_of c) (limit_of c) (front_of op.at) (gone op.at)) e told), none_answered why e)
 
     -- it was run, as one call
     pub all_ran : (b : Batch T) (n : ℕ) → stop ≡ AllGone b n → WasFolded c (FoldFirst front) (begun_of c op.pass) (as_pass q) front (Ok (record { number = b.number; count = n }))
@@ -143,15 +154,6 @@ module _ {T : Type 0} (c : Stack T) where
         let r = (subst (FoldStops front (begun_of c op.pass) q) e stops).1 in
         let made = r.deeds.made in
         (made.values, fold_gives c front (folded_of b) b.number r, subst (λ (vs : List T). WasRun c (FoldFirst front) (begun_of c op.pass) (as_pass q) (AnswerFold (Ok (vs, b.number)))) made.order (r.ran refl))
-
-    pub all_answered : (b : Batch T) (n : ℕ) → stop ≡ AllGone b n → FoldAnswers front (Ok (record { number = b.number; count = n })) (begun_of c op.pass) (pass_in q)
-    all_answered b n e =
-        let r = (subst (FoldStops front (begun_of c op.pass) q) e stops).1 in
-        let made = r.deeds.made in
-        (made.values, fold_gives c front (folded_of b) b.number r, subst (λ (vs : List T). Answers (begun_of c op.pass) (pass_in q) (FoldAnswered (Ok (vs, b.number)))) made.order r.answered)
-
-    pub none_answered : (why : TakeRefused) → stop ≡ Refused why → FoldAnswers front (Err why) (begun_of c op.pass) (pass_in q)
-    none_answered why e = (subst (FoldStops front (begun_of c op.pass) q) e stops).1.answered
 
     pub none_ran : (why : TakeRefused) → stop ≡ Refused why → WasRun c (FoldFirst front) (begun_of c op.pass) (as_pass q) (AnswerFold (Err why))
     none_ran why e = (subst (FoldStops front (begun_of c op.pass) q) e stops).1.ran refl

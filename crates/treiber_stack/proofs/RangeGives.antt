@@ -10,7 +10,7 @@ use Rattle.bounded_model.specs.declared.bulk.RangeRefused.{RangeRefused}
 use Rattle.bounded_model.specs.declared.bulk.RangeRefused.TheVariants.{Nothing, Full, Closed, Spent}
 use Rattle.bounded_model.specs.declared.history.Event.TheVariants.{Put}
 use Rattle.bounded_model.specs.declared.views.PassView.{PassView}
-use Rattle.bounded_model.specs.Bulk.{somes, PutsFront, PutsNone, PutsRange}
+use Rattle.bounded_model.specs.Bulk.{somes, PutsFront, PutsNone, PutsRange, RangeAnswers}
 use Rattle.bounded_model.specs.Histories.{own}
 use Rattle.bounded_model.specs.Laws.{BacksOut, RangeGives, gave_back, holds_of}
 use Rattle.bounded_model.specs.Machine.{Shape}
@@ -30,7 +30,7 @@ use Rattle.treiber_stack.specs.declared.bulk.range_steps.Held.{Held}
 use Rattle.treiber_stack.specs.declared.bulk.range_steps.RangeEnd.TheVariants.{Barred as IsBarred}
 use Rattle.treiber_stack.specs.declared.call_parts.refusing.Barred.{Barred}
 use Rattle.treiber_stack.specs.declared.call_parts.refusing.Barred.TheVariants.{Closed as BarredClosed, Spent as BarredSpent}
-use Rattle.treiber_stack.specs.Ran.{IsRange, RangeAnswers, WasRange, WasRun}
+use Rattle.treiber_stack.specs.Ran.{IsRange, WasRange, WasRun}
 use Rattle.treiber_stack.specs.Ranging.{NotPut, IsOver, IsRefused, places_from, putting}
 use Rattle.treiber_stack.specs.Refusing.{barring, barring_range}
 use Rattle.treiber_stack.specs.Stack.{Pass, Stack, machine_of, shape_of, pass_in}

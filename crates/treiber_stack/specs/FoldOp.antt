@@ -1,7 +1,7 @@
 -- A fold that is run for some steps at a time.
 use Rattle.std.specs.Prelude.{◌≡◌, ◌≤◌, ◌+◌, ℕ, List, [], ◌∷◌, ◌++◌}
 use Rattle.bounded_model.specs.declared.views.PassView.{PassView}
-use Rattle.bounded_model.specs.Bulk.{FoldsAll}
+use Rattle.bounded_model.specs.Bulk.{FoldsAll, FoldAnswers}
 use Rattle.index_list.specs.declared.front.Front.{Front}
 use Rattle.running.specs.Ops.{IsUnderWay}
 use Rattle.running.specs.declared.op.Op.{Op}
@@ -33,9 +33,10 @@ module _ {T : Type 0} (c : Stack T) (front : Front) where
     pub handed : gone op.at ≡ values
 
   -- What some steps of it give, if it had handed out these values. Either it continues, begun as before, and has handed out one value more
-  -- or none. Or it has ended by the law of a whole fold: these values were all that it took, or none since it was refused
+  -- or none. Or it has ended by the laws of a whole fold: these values were all that it took, or none since it was refused
   abbrev pub FoldTried : List T → PassView T → FoldMade T → Type 0
   FoldTried values begun (Again op) = IsFolding values op × (begun_of c op.pass ≡ begun)
   FoldTried values begun (Value x op) = IsFolding (values ++ x ∷ []) op × (begun_of c op.pass ≡ begun)
   FoldTried values begun (Done back answer) = IsPassOf c back
       × FoldsAll (record { shape = shape_of c; from = begun; to = pass_in back }) (λ all. values ≡ in_order (direction front) all) (values ≡ []) answer
+      × FoldAnswers (in_order (direction front)) answer begun (pass_in back)

@@ -7,8 +7,7 @@ use Rattle.bounded_model.specs.declared.bulk.Ranged.{Ranged}
 use Rattle.bounded_model.specs.declared.bulk.RangeRefused.{RangeRefused}
 use Rattle.bounded_model.specs.declared.bulk.RangeRefused.TheVariants.{Nothing, Full, Closed, Spent}
 use Rattle.bounded_model.specs.declared.views.PassView.{PassView}
-use Rattle.bounded_model.specs.declared.views.Answered.TheVariants.{Fold as FoldAnswered}
-use Rattle.bounded_model.specs.Laws.{Answers, FoldGives}
+use Rattle.bounded_model.specs.Laws.{FoldGives}
 use Rattle.index_list.specs.declared.front.Front.{Front}
 use Rattle.stack_machine.specs.declared.lines.Answer.{Answer}
 use Rattle.stack_machine.specs.declared.lines.Answer.TheVariants.{Fold, Put}
@@ -16,7 +15,7 @@ use Rattle.stack_machine.specs.declared.lines.Call.TheVariants.{Put as CallPut}
 use Rattle.stack_machine.specs.Machine.{ends}
 use Rattle.stack_machine.specs.Deeds.{in_order}
 use Rattle.stack_table.specs.declared.operation.Operation.{Operation}
-use Rattle.stack_table.specs.Lines.{answered, call_of, direction}
+use Rattle.stack_table.specs.Lines.{call_of, direction}
 use Rattle.running.specs.Going.{HasRun}
 use Rattle.treiber_stack.specs.Stack.{Pass, Stack, machine_of, pass_in}
 
@@ -30,12 +29,6 @@ module _ {T : Type 0} (c : Stack T) (o : Operation T) (begun : PassView T) (back
   abbrev pub WasFolded : Front → Result Folded TakeRefused → Type 0
   WasFolded front (Ok folded) = (values : List T) × FoldGives begun (pass_in back) values folded.number × WasRun (Fold (Ok (in_order (direction front) values, folded.number)))
   WasFolded front (Err why) = WasRun (Fold (Err why))
-
--- A fold's pass, which was v and is w, keeps one answer more. That is the refusal, or the values of the fold's take in the order in which
--- it folded them
-abbrev pub FoldAnswers : {T : Type 0} → Front → Result Folded TakeRefused → PassView T → PassView T → Type 0
-FoldAnswers {T} front (Ok folded) v w = (values : List T) × FoldGives v w values folded.number × Answers v w (FoldAnswered (Ok (in_order (direction front) values, folded.number)))
-FoldAnswers front (Err why) v w = Answers v w (FoldAnswered (Err why))
 
 -- the operation is a put of these values, of which there is one
 abbrev pub IsRange : {T : Type 0} → Operation T → List T → Type 0
@@ -51,10 +44,6 @@ MatchCall vs (Err Full) none Call = Call (Put (Err (PutFull vs)))
 MatchCall vs (Err Closed) none Call = Call (Put (Err (PutClosed vs)))
 MatchCall vs (Err (Spent word t)) none Call = Call (Put (Err (PutSpent vs word t)))
 
--- its pass, which was v and is w, keeps one answer more
-abbrev pub RangeAnswers : {T : Type 0} → List T → Result Ranged RangeRefused → PassView T → PassView T → Type 0
-RangeAnswers vs r v w = MatchCall vs r (w ≡ v) (λ a. Answers v w (answered a))
-
--- and the machine has run, as one call
+-- the machine has run, as one call
 abbrev pub WasRange : {T : Type 0} → Stack T → PassView T → List T → Result Ranged RangeRefused → Pass T → Type 0
 WasRange {T} c begun vs r back = MatchCall vs r (pass_in back ≡ begun) (λ a. (o : Operation T) × IsRange o vs × WasRun c o begun back a)

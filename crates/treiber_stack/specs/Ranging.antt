@@ -12,7 +12,7 @@ use Rattle.bounded_model.specs.declared.bulk.RangeRefused.{RangeRefused}
 use Rattle.bounded_model.specs.declared.bulk.RangeRefused.TheVariants.{Nothing, Full, Closed, Spent}
 use Rattle.bounded_model.specs.declared.views.PassView.{PassView}
 use Rattle.bounded_model.specs.Machine.{Shape}
-use Rattle.bounded_model.specs.Bulk.{PutsRange}
+use Rattle.bounded_model.specs.Bulk.{PutsRange, RangeAnswers}
 use Rattle.bounded_model.specs.Laws.{Adds, BacksOut}
 use Rattle.bounded_model.specs.Justified.{Justified}
 use Rattle.bounded_model.specs.Justified as right
@@ -45,7 +45,7 @@ use Rattle.treiber_stack.specs.declared.bulk.range_steps.RangeStopped.{RangeStop
 use Rattle.treiber_stack.specs.declared.call_parts.refusing.Barred.{Barred}
 use Rattle.treiber_stack.specs.Begun.{put_begun}
 use Rattle.treiber_stack.specs.Giving.{AreNodes, IsGiving, give_line}
-use Rattle.treiber_stack.specs.Ran.{RangeAnswers, WasRange}
+use Rattle.treiber_stack.specs.Ran.{WasRange}
 use Rattle.treiber_stack.specs.Refusing.{barring}
 use Rattle.treiber_stack.specs.Stack.{Pass, Stack, room_of, limit_of, machine_of, shape_of, pass_in, begun_of, IsPassOf, IsSeatOf, IsAt}
 

@@ -2,13 +2,13 @@
 //! out one after another. One more compare-and-swap gives the whole chain to the free list.
 ghost use Rattle.std.specs.Prelude.{◌≡◌, ◌++◌, [], ◌∷◌, reverse, Some, None};
 ghost use Rattle.atomic_table.specs.Table.{rest};
-ghost use Rattle.bounded_model.specs.Bulk.{FoldsAll};
+ghost use Rattle.bounded_model.specs.Bulk.{FoldsAll, FoldAnswers};
 ghost use Rattle.bounded_model.specs.Consumes.{Folds};
 ghost use Rattle.stack_machine.specs.Deeds.{in_order};
 ghost use Rattle.stack_table.specs.Lines.{direction};
 ghost use Rattle.index_list.specs.declared.front.Front.TheVariants.{First, Last};
 ghost use Rattle.stack_table.specs.declared.operation.Operation.TheVariants.{Fold as FoldFirst};
-ghost use Rattle.treiber_stack.specs.Ran.{FoldAnswers, WasFolded};
+ghost use Rattle.treiber_stack.specs.Ran.{WasFolded};
 ghost use Rattle.treiber_stack.specs.Stack.{call_of, pass_in, IsPassOf};
 
 use crate::call_parts::giving::{Chain, Give, give_access, give_next};
@@ -95,7 +95,7 @@ impl<T> Stack<T> {
         ensures gives { FoldsAll (call_of self.now by result.0)
             (λ values. Folds (λ s x t. F.post f s x t) state values result.1)
             (result.1 ≡ state) result.2 }
-        ensures answered { FoldAnswers First result.2 (pass_in by) (pass_in result.0) }
+        ensures answered { FoldAnswers (λ values. values) result.2 (pass_in by) (pass_in result.0) }
         ensures ran { WasFolded self.now (FoldFirst First) (pass_in by) result.0 First result.2 }
     {
         fold(self, rt, by, Front::First, state, f)
@@ -117,7 +117,7 @@ impl<T> Stack<T> {
         ensures gives { FoldsAll (call_of self.now by result.0)
             (λ values. Folds (λ s x t. F.post f s x t) state (reverse values) result.1)
             (result.1 ≡ state) result.2 }
-        ensures answered { FoldAnswers Last result.2 (pass_in by) (pass_in result.0) }
+        ensures answered { FoldAnswers reverse result.2 (pass_in by) (pass_in result.0) }
         ensures ran { WasFolded self.now (FoldFirst Last) (pass_in by) result.0 Last result.2 }
     {
         fold(self, rt, by, Front::Last, state, f)
@@ -139,7 +139,8 @@ fn fold<T, R: Wait, S, F: Fn(S, T) -> S + Drop>(
         (λ values. Folds (λ s x t. F.post f s x t) state (in_order (direction front) values)
         result.1)
         (result.1 ≡ state) result.2 }
-    ensures answered { FoldAnswers front result.2 (pass_in by) (pass_in result.0) }
+    ensures answered { FoldAnswers (λ values. in_order (direction front) values) result.2
+        (pass_in by) (pass_in result.0) }
     ensures ran { WasFolded on.now (FoldFirst front) (pass_in by) result.0 front result.2 }
 {
     let table = &on.table.shared;

@@ -5,9 +5,9 @@ ghost use Rattle.std.specs.Prelude.{◌≡◌, ◌<◌, List, [], ◌∷◌, map
 ghost use Rattle.std.specs.List.{AllByRecursion as Every};
 ghost use Rattle.atomic_table.specs.Table.{rest};
 ghost use Rattle.bounded_model.specs.declared.views.PassView.{PassView};
-ghost use Rattle.bounded_model.specs.Bulk.{PutsRange, somes};
+ghost use Rattle.bounded_model.specs.Bulk.{PutsRange, RangeAnswers, somes};
 ghost use Rattle.machine.specs.Seats.{Looks};
-ghost use Rattle.treiber_stack.specs.Ran.{IsRange, RangeAnswers, WasRange};
+ghost use Rattle.treiber_stack.specs.Ran.{IsRange, WasRange};
 ghost use Rattle.treiber_stack.specs.RangeTrying.{HasStopped, IsRanging, RangeTried, StoppedAt, gives_back, places_at};
 ghost use Rattle.treiber_stack.specs.Ranging.{IsNext, HasTaken, FillsOne, IsRefused, Restores, ReadsAgain, PutsOf, places_from};
 ghost use Rattle.treiber_stack.specs.Stack.{room_of, shape_of, call_of, pass_in, begun_of, IsPassOf};

@@ -1,12 +1,15 @@
 use Rattle.std.proofs.Common.{[], ◌∷◌, ◌++◌, ◌+◌, length, length-append, refl, sym, ap, ◌∙◌, subst, arith}
 use Rattle.tagged_index.specs.Limits.{capacity_of}
 use Rattle.bounded_model.specs.declared.views.PassView.{PassView}
+use Rattle.bounded_model.specs.Bulk.{FoldAnswers}
 use Rattle.bounded_model.specs.Laws.{TakesNothing, FoldGives}
 use Rattle.running.proofs.Ways.{started, begun_is}
+use Rattle.stack_table.specs.Lines.{direction}
 use Rattle.stack_table.specs.declared.operation.Operation.TheVariants.{Fold as FoldFirst}
 use Rattle.std.specs.Prelude.{Ok, Err}
+use Rattle.stack_machine.specs.Deeds.{in_order}
 use Rattle.stack_machine.specs.declared.lines.Answer.TheVariants.{Fold as AnswerFold}
-use Rattle.treiber_stack.specs.Ran.{FoldAnswers, WasRun, WasFolded}
+use Rattle.treiber_stack.specs.Ran.{WasRun, WasFolded}
 use Rattle.treiber_stack.specs.Stack.{as_pass, machine_of, shape_of, pass_in}
 use Rattle.treiber_stack.proofs.Folds.{Folds_more, folds_same, hands_on, all_gone, all_answered, none_answered, all_ran, none_ran, none_taken, gone_few}
 use Rattle.treiber_stack.proofs.bulk.folding.fold.Goals as goal
@@ -96,7 +99,7 @@ returns-in-Ended-clause-answered g c =
     let back = c.to_the_end-back.result.0 in
     let b = c.in-Ended.batch in
     let answers = all_answered stack c.args.front i.0 (record { pass = l.pass; operation = FoldFirst c.args.front; at = l.at }) i.1 back c.to_the_end-back.result.1 (e.stops l.pass c.any-first.ensures.ran) (e.told l.at c.any-first.ensures.told) b c.in-Ended.count c.in-Ended.is in
-    subst (λ (v : PassView _). FoldAnswers c.args.front (Ok (record { number = b.number; count = c.in-Ended.count })) v (pass_in (as_pass back))) i.3 answers
+    subst (λ (v : PassView _). FoldAnswers (in_order (direction c.args.front)) (Ok (record { number = b.number; count = c.in-Ended.count })) v (pass_in (as_pass back))) i.3 answers
 
 pub returns-in-Refused-clause-answered : goal.returns-in-Refused-clause-answered
 returns-in-Refused-clause-answered g c =
@@ -106,7 +109,7 @@ returns-in-Refused-clause-answered g c =
     let e = c.to_the_end-back.ensures in
     let back = c.to_the_end-back.result.0 in
     let answers = none_answered stack c.args.front i.0 (record { pass = l.pass; operation = FoldFirst c.args.front; at = l.at }) i.1 back c.to_the_end-back.result.1 (e.stops l.pass c.any-first.ensures.ran) (e.told l.at c.any-first.ensures.told) c.in-Refused.why c.in-Refused.is in
-    subst (λ (v : PassView _). FoldAnswers c.args.front (Err c.in-Refused.why) v (pass_in (as_pass back))) i.3 answers
+    subst (λ (v : PassView _). FoldAnswers (in_order (direction c.args.front)) (Err c.in-Refused.why) v (pass_in (as_pass back))) i.3 answers
 
 pub returns-in-Refused-clause-ran : goal.returns-in-Refused-clause-ran
 returns-in-Refused-clause-ran g c =
