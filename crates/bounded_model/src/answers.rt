@@ -13,7 +13,7 @@ pub enum Word {
     Cells,
     /// The top of a queue's free nodes.
     Nodes,
-    /// The `next` word of this node of a queue.
+    /// The `next` word of this node of a queue, or this slot of a ring.
     Next(u32),
     /// The top of a stack's free nodes.
     Free,

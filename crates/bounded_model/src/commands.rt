@@ -1,4 +1,4 @@
-//! The calls of a container as values, their answers, and such calls by single steps.
+//! The calls of a container as values, and their answers.
 
 use crate::{PutRefused, TakeRefused};
 
@@ -25,14 +25,4 @@ pub enum Reply<T> {
     Shut(bool),
     /// Whether the container was empty.
     Look(bool),
-}
-
-/// An operation under way, at its next step. One type for the operations of each kind of call.
-#[derive(Drop)]
-pub enum Operation<P, T, C, S, L> {
-    Put(P),
-    Take(T),
-    Close(C),
-    Shut(S),
-    Look(L),
 }

@@ -12,7 +12,6 @@ mod commands;
 mod consume;
 mod container;
 mod history;
-mod kinds;
 mod plain_list;
 mod stepwise;
 mod theorems;
@@ -20,7 +19,7 @@ mod views;
 
 pub use answers::{MakeRefused, PutRefused, Stepped, TakeRefused, Word};
 pub use bulk::{Bulk, Folded, RangeRefused, Ranged};
-pub use commands::{Command, Operation, Reply};
+pub use commands::{Command, Reply};
 pub use consume::{consume_all, consume_one};
 pub use container::{Container, Leaving, MAX_PASSES, MIN_PASSES};
 pub use history::{Event, Order};
