@@ -2,12 +2,13 @@
 
 ghost use Rattle.bounded_model.specs.Stepping.{MatchStepped};
 ghost use Rattle.ring_queue.specs.Counting.{IsCounting};
+ghost use Rattle.ring_queue.specs.Gauging.{IsGauging};
 ghost use Rattle.ring_queue.specs.Ring.{IsPassOf};
 ghost use Rattle.ring_tests.specs.Doing.{IsDoing};
 
 use crate::plain::{Asked, Reply};
 use bounded_model::{Command, Stepped, Stepwise};
-use ring_queue::{AnyOp, LenOp, Pass, RingQueue};
+use ring_queue::{AnyOp, Gauge, GaugeOp, LenOp, Pass, RingQueue};
 
 /// A pass between its calls, or its call under way.
 #[derive(Drop)]
@@ -15,6 +16,7 @@ pub(crate) enum Doing {
     Rests(Pass<u64>),
     Calls(AnyOp<u64>),
     Counts(LenOp<u64>),
+    Gauges(GaugeOp<u64>),
 }
 
 /// Begins this call.
@@ -29,6 +31,7 @@ pub(crate) fn begun(ring: &RingQueue<u64>, pass: Pass<u64>, asked: Asked) -> Doi
         Asked::Shut => Command::Shut,
         Asked::Look => Command::Look,
         Asked::Count => return Doing::Counts(ring.begin_len(pass)),
+        Asked::Gauge => return Doing::Gauges(ring.begin_gauge(pass)),
     };
     Doing::Calls(ring.begin(pass, command))
 }
@@ -48,6 +51,13 @@ pub(crate) fn stepped(ring: &RingQueue<u64>, doing: Doing) -> (Doing, Option<Rep
             Stepped::Again(next) => (Doing::Counts(next), None),
             Stepped::Done(pass, count) => (Doing::Rests(pass), Some(Reply::Counted(count))),
         },
+        Doing::Gauges(op) => match gauge_on(ring, op, 1) {
+            Stepped::Again(next) => (Doing::Gauges(next), None),
+            Stepped::Done(pass, gauge) => (
+                Doing::Rests(pass),
+                Some(Reply::Gauged(gauge.closed, gauge.used)),
+            ),
+        },
     }
 }
 
@@ -60,6 +70,19 @@ pub(crate) fn count_on(
     requires { IsCounting ring.now op }
     ensures { MatchStepped result (λ next. IsCounting ring.now next)
         (λ back count. IsPassOf ring.now back) }
+{
+    op.run_for(ring, steps)
+}
+
+/// The same for a gauge.
+pub(crate) fn gauge_on(
+    ring: &RingQueue<u64>,
+    op: GaugeOp<u64>,
+    steps: u64,
+) -> Stepped<GaugeOp<u64>, Pass<u64>, Gauge>
+    requires { IsGauging ring.now op }
+    ensures { MatchStepped result (λ next. IsGauging ring.now next)
+        (λ back gauge. IsPassOf ring.now back) }
 {
     op.run_for(ring, steps)
 }

@@ -6,7 +6,7 @@ use bounded_model::{PutRefused, Reply as Said, TakeRefused, Word};
 pub(crate) const ROOM: usize = 3;
 
 /// What is asked of a ring.
-#[derive(Clone, Copy, PartialEq, Eq)]
+#[derive(Clone, Copy, Debug, PartialEq, Eq)]
 pub(crate) enum Asked {
     Put(u64),
     Take,
@@ -14,10 +14,11 @@ pub(crate) enum Asked {
     Shut,
     Look,
     Count,
+    Gauge,
 }
 
 /// What it answers.
-#[derive(Clone, Copy, PartialEq, Eq)]
+#[derive(Clone, Copy, Debug, PartialEq, Eq)]
 pub(crate) enum Reply {
     /// The number of the put.
     Put(u64),
@@ -43,6 +44,8 @@ pub(crate) enum Reply {
     Looked(bool),
     /// How many values it had.
     Counted(u64),
+    /// Whether it was closed, and how many values were put.
+    Gauged(bool, u64),
 }
 
 impl Reply {
@@ -57,8 +60,8 @@ impl Reply {
         }
     }
 
-    // What a put answered.
-    fn of_put(answer: Result<u64, PutRefused<u64>>) -> Reply {
+    /// What a put answered.
+    pub(crate) fn of_put(answer: Result<u64, PutRefused<u64>>) -> Reply {
         match answer {
             Ok(number) => Reply::Put(number),
             Err(PutRefused::Full(value)) => Reply::Full(value),
@@ -67,8 +70,8 @@ impl Reply {
         }
     }
 
-    // What a take answered.
-    fn of_take(answer: Result<(u64, u64), TakeRefused>) -> Reply {
+    /// What a take answered.
+    pub(crate) fn of_take(answer: Result<(u64, u64), TakeRefused>) -> Reply {
         match answer {
             Ok((value, number)) => Reply::Taken(value, number),
             Err(TakeRefused::Empty) => Reply::Empty,
@@ -129,6 +132,7 @@ impl Plain {
             Asked::Shut => (Plain { shut: true, ..self }, Reply::Shut(!self.shut)),
             Asked::Look => (self, Reply::Looked(self.count() == 0)),
             Asked::Count => (self, Reply::Counted(self.count())),
+            Asked::Gauge => (self, Reply::Gauged(self.closed, self.puts)),
         }
     }
 

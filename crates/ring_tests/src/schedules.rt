@@ -43,6 +43,7 @@ struct Heard {
     shut: bool,
     looked: bool,
     counted: bool,
+    gauged: bool,
 }
 
 impl Heard {
@@ -59,6 +60,7 @@ impl Heard {
         shut: false,
         looked: false,
         counted: false,
+        gauged: false,
     };
 
     const ALL: Heard = Heard {
@@ -74,6 +76,7 @@ impl Heard {
         shut: true,
         looked: true,
         counted: true,
+        gauged: true,
     };
 
     fn hear(&mut self, reply: Reply) {
@@ -91,6 +94,7 @@ impl Heard {
             Reply::Shut(_) => self.shut = true,
             Reply::Looked(_) => self.looked = true,
             Reply::Counted(_) => self.counted = true,
+            Reply::Gauged(_, _) => self.gauged = true,
         }
     }
 }
@@ -112,8 +116,9 @@ impl Play {
             0 => Asked::Close,
             1 => Asked::Shut,
             2..12 => Asked::Look,
-            12..24 => Asked::Count,
-            24..78 => Asked::Put(self.value),
+            12..20 => Asked::Count,
+            20..26 => Asked::Gauge,
+            26..78 => Asked::Put(self.value),
             _ => Asked::Take,
         };
         self.value = self.value.saturating_add(1);
