@@ -21,6 +21,11 @@ use tagged_index::Tagged;
 /// A walk passes fewer positions than this, and then moves the hint.
 pub(crate) const STRIDE: u32 = 4;
 
+/// The rounds of a walk's loop on a fast path. A walk ends before this, but a loop of no more rounds
+/// than STRIDE is unrolled before the compiler decides what to inline, and is too large for that
+/// then.
+pub(crate) const FAST_ROUNDS: u32 = 8;
+
 /// The next step of a walk.
 #[derive(Clone, Copy)]
 pub enum WalkAt {

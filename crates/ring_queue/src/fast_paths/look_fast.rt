@@ -6,7 +6,7 @@ ghost use Rattle.ring_table.specs.declared.operation.Operation.TheVariants.{Look
 ghost use Rattle.ring_queue.specs.Looking.{LookStands, LookRan, slot_loaded};
 ghost use Rattle.ring_queue.specs.Ring.{IsPassOf};
 
-use crate::call_parts::walking::{STRIDE, Walk, WalkAt};
+use crate::call_parts::walking::{FAST_ROUNDS, Walk, WalkAt};
 use crate::calls::looking::LookAt;
 use crate::life::ring::{Answered, Pass, RingQueue};
 use ring_table::{Operation, SeatLine};
@@ -49,7 +49,7 @@ fn look_fast_walk<T>(
 {
     let mut pass = by;
     let mut walk = begun;
-    for _gone in 0..STRIDE {
+    for _gone in 0..FAST_ROUNDS {
         let read = LookAt {
             at: WalkAt::LoadSlot(walk),
         };

@@ -11,7 +11,7 @@ ghost use Rattle.ring_queue.specs.Ring.{IsPassOf};
 ghost use Rattle.ring_queue.specs.declared.calls.putting.PutAt.TheVariants.{Walking};
 ghost use Rattle.ring_queue.specs.declared.call_parts.walking.WalkAt.TheVariants.{LoadSlot};
 
-use crate::call_parts::walking::{STRIDE, Walk, WalkAt};
+use crate::call_parts::walking::{FAST_ROUNDS, Walk, WalkAt};
 use crate::calls::putting::{Answer, PutAt};
 use crate::life::ring::{Answered, Pass, RingQueue};
 use ring_table::{Operation, SeatLine};
@@ -116,7 +116,7 @@ fn put_fast_walk<T>(
     let mut pass = by;
     let mut shown = value;
     let mut walk = begun;
-    for _gone in 0..STRIDE {
+    for _gone in 0..FAST_ROUNDS {
         let read = PutAt::Walking(shown, WalkAt::LoadSlot(walk));
         match any(&on.table.shared, on, pass, read, put) {
             (next, Next::On(at)) => match at {

@@ -9,7 +9,7 @@ ghost use Rattle.ring_queue.specs.Taking.{TakeStands, TakeRan};
 ghost use Rattle.ring_queue.specs.declared.calls.taking.TakeAt.TheVariants.{Walking};
 ghost use Rattle.ring_queue.specs.declared.call_parts.walking.WalkAt.TheVariants.{LoadSlot};
 
-use crate::call_parts::walking::{STRIDE, Walk, WalkAt};
+use crate::call_parts::walking::{FAST_ROUNDS, Walk, WalkAt};
 use crate::calls::taking::{Answer, TakeAt};
 use crate::life::ring::{Answered, Pass, RingQueue};
 use ring_table::{Operation, SeatLine};
@@ -66,7 +66,7 @@ fn take_fast_walk<T>(
 {
     let mut pass = by;
     let mut walk = begun;
-    for _gone in 0..STRIDE {
+    for _gone in 0..FAST_ROUNDS {
         let read = TakeAt::Walking(WalkAt::LoadSlot(walk));
         match any(&on.table.shared, on, pass, read, take) {
             (next, Next::On(at)) => match at {
