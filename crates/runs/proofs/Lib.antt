@@ -10,3 +10,5 @@ pub mod Work
 pub mod Table
 pub mod Hands
 pub mod WrongTables
+pub mod InTime
+pub mod Effects

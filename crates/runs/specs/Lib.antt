@@ -4,3 +4,4 @@ pub mod Made
 pub mod Work
 pub mod Table
 pub mod WrongTables
+pub mod InTime

@@ -4,8 +4,10 @@
 
 mod counting;
 mod full;
+mod order;
 mod shown;
 
 pub use counting::step_for;
 pub use full::full_means_full;
+pub use order::{calls_in_one_order, each_call_did_once};
 pub use shown::seats_near_misses;
