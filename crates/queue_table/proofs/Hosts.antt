@@ -14,7 +14,7 @@ use Rattle.running.specs.Rule.{Rule}
 use Rattle.running.specs.Lists.{Listed, Hosts, Ready, BroughtBy, ReturnedBy, step_access, host}
 use Rattle.running.proofs.Hosting.{laws}
 use Rattle.running.proofs.Indexes.{listed}
-use Rattle.queue_table.specs.Layout.{clink_at, nlink_at}
+use Rattle.queue_table.specs.Layout.{cells_at, nodes_at, clink_at, nlink_at, words_for}
 use Rattle.queue_table.specs.Core.{core}
 use Rattle.queue_table.specs.Memories.{memory_of}
 use Rattle.queue_table.specs.Lists.{lists, list_step}
@@ -53,11 +53,11 @@ returned : {T : Type 0} (n limit : ℕ) (line : Line T) (zs : List (ℕ × Slot 
 returned n limit (GiveCell give w) zs fits = ap (λ (ys : List (ℕ × Slot _)). numbers ys) fits
 returned n limit l zs fits = tt
 
-top_low : (first_list : Bool) (n : ℕ) → cond first_list 0 16 < 68 + 4 * n
+top_low : (first_list : Bool) (n : ℕ) → cond first_list cells_at nodes_at < words_for n
 top_low true n = omega arith
 top_low false n = omega arith
 
-link_off : (first_list : Bool) (i : ℕ) → cond first_list (clink_at i) (nlink_at i) ≡ cond first_list 0 16 → ⊥
+link_off : (first_list : Bool) (i : ℕ) → cond first_list (clink_at i) (nlink_at i) ≡ cond first_list cells_at nodes_at → ⊥
 link_off true i e = omega arith
 link_off false i e = omega arith
 

@@ -23,7 +23,7 @@ use Rattle.running.specs.Rule.{Rule}
 use Rattle.running.proofs.Acts.{led_first}
 use Rattle.running.proofs.Newest.{newest_first}
 use Rattle.running.proofs.Opening.{empties, home_start, home_past, homes_start, first_who, nobody, below_or_not}
-use Rattle.queue_table.specs.Layout.{clink_at, nlink_at, next_at, cell_at, words_for, start_of, start_at, number_at}
+use Rattle.queue_table.specs.Layout.{cells_at, nodes_at, head_at, tail_at, clink_at, nlink_at, next_at, cell_at, words_for, start_of, start_at, number_at}
 use Rattle.queue_machine.specs.declared.lines.Number.{Number}
 use Rattle.queue_machine.specs.declared.lines.Number.TheVariants.{CellLink, NodeLink, Cell}
 use Rattle.queue_table.specs.Memories.{memory_of, at_home}
@@ -31,10 +31,10 @@ use Rattle.queue_table.specs.Core.{core}
 use Rattle.queue_table.proofs.Laws.{laws, queue}
 
 -- the word of index i in this part of its four
-part_of : (n i r at : ℕ) → at ≡ 64 + 4 * i + r → r < 4 → start_at n at ≡ start_of n r i
-part_of n i r at e low = cases (λ v. v ≡ start_of n r i) (ltb at 64) (cond (eqb at 16) 1 0) (start_of n ((at - 64) % 4) ((at - 64) / 4))
+part_of : (n i r at : ℕ) → at ≡ 80 + 4 * i + r → r < 4 → start_at n at ≡ start_of n r i
+part_of n i r at e low = cases (λ v. v ≡ start_of n r i) (ltb at 80) (cond (eqb at nodes_at) 1 0) (start_of n ((at - 80) % 4) ((at - 80) / 4))
     (λ b. absurd (grind (arith, nat_tests)))
-    (λ _. let apart : at - 64 ≡ i * 4 + r = omega (arith, e) in
+    (λ _. let apart : at - 80 ≡ i * 4 + r = omega (arith, e) in
     ap (λ (k : ℕ). start_of n (k % 4) (k / 4)) apart
     ∙ ap (λ (k : ℕ). start_of n k ((i * 4 + r) / 4)) (mod-mul-add i 4 r low)
     ∙ ap (λ (k : ℕ). start_of n r k) (div-mul-add i 4 r low))
@@ -44,14 +44,14 @@ link_small n i small = cases (λ v. v ≤ NULL) (eqb (i + 1) n) NULL (i + 1) (λ
 
 module _ (n : ℕ) (ws : List ℕ) (small : n < NULL) (long : length ws ≡ words_for n) (is : (k : ℕ) → k < words_for n → slice_index ws k ≡ start_at n k) where
   -- a word of an index: that of a new queue, and 0 where there is none
-  word_of : (i r at : ℕ) → at ≡ 64 + 4 * i + r → r < 4 → ((i < n + 1) × (slice_index ws at ≡ start_of n r i)) ⊎ (slice_index ws at ≡ 0)
+  word_of : (i r at : ℕ) → at ≡ 80 + 4 * i + r → r < 4 → ((i < n + 1) × (slice_index ws at ≡ start_of n r i)) ⊎ (slice_index ws at ≡ 0)
   word_of i r at e low = ⊎_elim
       (λ h. inl (h, is at (omega (arith, e)) ∙ part_of n i r at e low))
       (λ h. inr (get_or_past ws at 0 (omega (arith, e, long))))
       (below_or_not i (n + 1))
 
   -- a number that was read is an index or null
-  plain : (i r at : ℕ) → at ≡ 64 + 4 * i + r → r < 4 → (i < n + 1 → start_of n r i ≤ NULL) → slice_index ws at ≤ NULL
+  plain : (i r at : ℕ) → at ≡ 80 + 4 * i + r → r < 4 → (i < n + 1 → start_of n r i ≤ NULL) → slice_index ws at ≤ NULL
   plain i r at e low bound = ⊎_elim
       (λ h. let b = bound h.0 in omega (arith, h.1))
       (λ h. omega (arith, h))
@@ -67,7 +67,7 @@ module _ (n : ℕ) (ws : List ℕ) (small : n < NULL) (long : length ws ≡ word
 
 module _ (n : ℕ) (ws : List ℕ) (long : length ws ≡ words_for n) (is : (k : ℕ) → k < words_for n → slice_index ws k ≡ start_at n k) where
   -- the words of each number: those of a new queue, and 0 where there are none
-  number_first : (i r at : ℕ) → at ≡ 64 + 4 * i + r → r < 4 → cond (ltb i (n + 1)) (start_of n r i) 0 ≡ slice_index ws at
+  number_first : (i r at : ℕ) → at ≡ 80 + 4 * i + r → r < 4 → cond (ltb i (n + 1)) (start_of n r i) 0 ≡ slice_index ws at
   number_first i r at e low = cases (λ (v : ℕ). v ≡ slice_index ws at) (ltb i (n + 1)) (start_of n r i) 0
       (λ b. let h : i < n + 1 = grind (arith, nat_tests) in sym (is at (omega (arith, e)) ∙ part_of n i r at e low))
       (λ b. let h : n + 1 ≤ i = grind (arith, nat_tests) in sym (get_or_past ws at 0 (omega (arith, e, long))))
@@ -84,10 +84,10 @@ module _ {T : Type 0} (n limit : ℕ) (ws : List ℕ) (some_cell : 0 < n) (small
   -- a new table shows what a new queue has
   first_is : start (shape n limit) ≡ memory_of ws (empties T n)
   first_is = λ t. record {
-    cells = sym (ap fields_of (is 0 (omega arith))) t;
-    nodes = sym (ap fields_of (is 16 (omega arith))) t;
-    head = sym (ap fields_of (is 32 (omega arith))) t;
-    tail = sym (ap fields_of (is 48 (omega arith))) t;
+    cells = sym (ap fields_of (is cells_at (omega arith))) t;
+    nodes = sym (ap fields_of (is nodes_at (omega arith))) t;
+    head = sym (ap fields_of (is head_at (omega arith))) t;
+    tail = sym (ap fields_of (is tail_at (omega arith))) t;
     clink = λ i. number_first n ws long is i 0 (clink_at i) (omega arith) (omega arith) t;
     nlink = λ j. number_first n ws long is j 1 (nlink_at j) (omega arith) (omega arith) t;
     next = λ j. next_first n ws long is j t;

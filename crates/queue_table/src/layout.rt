@@ -1,6 +1,8 @@
-//! Where the words of a queue lie. The tops of the two free lists, the head and the tail are 16
-//! words apart, so that each has cache lines of its own. Four words follow for each index: the link
-//! of the free cell, that of the free node, and the node's link in the chain and its cell.
+//! Where the words of a queue lie. The first 16 words never change, so that notes and meetings,
+//! which load word 0, load none that calls change. The tops of the two free lists, the head and the
+//! tail follow, 16 words apart, so that each has cache lines of its own. Then come four words for
+//! each index: the link of the free cell, that of the free node, and the node's link in the chain
+//! and its cell.
 ghost use Rattle.std.specs.Prelude.{◌≡◌, ◌+◌, ◌*◌, ◌<◌, ◌≤◌};
 ghost use Rattle.tagged_index.specs.declared.word.TheConstants.{NULL};
 ghost use Rattle.machine.specs.Words.{start_link};
@@ -9,16 +11,16 @@ ghost use Rattle.queue_table.specs.Layout.{clink_at, nlink_at, next_at, cell_at,
 use tagged_index::NULL;
 
 /// The top of the free cells.
-pub const CELLS: usize = 0;
+pub const CELLS: usize = 16;
 
 /// The top of the free nodes.
-pub const NODES: usize = 16;
+pub const NODES: usize = 32;
 
 /// It names the dummy, which the first node follows.
-pub const HEAD: usize = 32;
+pub const HEAD: usize = 48;
 
 /// It names the last node, or the one before.
-pub const TAIL: usize = 48;
+pub const TAIL: usize = 64;
 
 /// The free cells as a list of the machine.
 pub const CELL_LIST: usize = 0;
@@ -26,7 +28,7 @@ pub const CELL_LIST: usize = 0;
 /// The free nodes as a list of the machine.
 pub const NODE_LIST: usize = 1;
 
-const FIRST_LINK: usize = 64;
+const FIRST_LINK: usize = 80;
 
 const WORDS_OF_AN_INDEX: usize = 4;
 

@@ -17,7 +17,7 @@ use Rattle.ring_machine.proofs.StepKinds.{takes_first}
 use Rattle.running.specs.Machine.{Does}
 use Rattle.running.specs.Tables.{Needs, Goes}
 use Rattle.running.proofs.Does.{does_all}
-use Rattle.ring_table.specs.Layout.{slot_at}
+use Rattle.ring_table.specs.Layout.{head_at, tail_at, slot_at}
 use Rattle.ring_table.specs.Memories.{memory_of, Sane}
 use Rattle.ring_table.specs.declared.line.SeatLine.{SeatLine}
 use Rattle.ring_table.specs.declared.line.SeatLine.TheVariants.{At, Stock}
@@ -33,10 +33,10 @@ module _ {T : Type 0} (n laps passes : ℕ) (words : List ℕ) (homes : List (Op
   abbrev m : Memory T
   m = memory_of n cells words homes
 
-  head_low : 0 < length words
+  head_low : head_at < length words
   head_low = omega (arith, sane.words_are, hints_below n)
 
-  tail_low : 16 < length words
+  tail_low : tail_at < length words
   tail_low = omega (arith, sane.words_are, hints_below n)
 
   slot_low : (i : ℕ) → i < n → slot_at n i < length words

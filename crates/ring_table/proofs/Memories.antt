@@ -12,11 +12,11 @@ pub use Rattle.running.proofs.Slots.{at_home_is}
 use Rattle.ring_table.specs.Layout.{slot_at, words_for, place_at, layout}
 
 -- no two slots have one word
-apart_by : (b : Bool) (i j : ℕ) → i ≢ j → 32 + cond b 8 1 * i ≢ 32 + cond b 8 1 * j
+apart_by : (b : Bool) (i j : ℕ) → i ≢ j → 48 + cond b 8 1 * i ≢ 48 + cond b 8 1 * j
 apart_by true i j ne e = ne (omega (arith, e))
 apart_by false i j ne e = ne (omega (arith, e))
 
-below_by : (b : Bool) (i n : ℕ) → i < n → 32 + cond b 8 1 * i < 32 + cond b 8 1 * n
+below_by : (b : Bool) (i n : ℕ) → i < n → 48 + cond b 8 1 * i < 48 + cond b 8 1 * n
 below_by true i n h = omega (arith, h)
 below_by false i n h = omega (arith, h)
 
@@ -24,14 +24,14 @@ below_by false i n h = omega (arith, h)
 pub slot_below : (n i : ℕ) → i < n → slot_at n i < words_for n
 slot_below n i h = below_by (ltb n 64) i n h
 
-beyond_by : (b : Bool) (i n : ℕ) → n ≤ i → 32 + cond b 8 1 * n ≤ 32 + cond b 8 1 * i
+beyond_by : (b : Bool) (i n : ℕ) → n ≤ i → 48 + cond b 8 1 * n ≤ 48 + cond b 8 1 * i
 beyond_by true i n h = omega (arith, h)
 beyond_by false i n h = omega (arith, h)
 
 pub slot_beyond : (n i : ℕ) → n ≤ i → words_for n ≤ slot_at n i
 slot_beyond n i h = beyond_by (ltb n 64) i n h
 
-pub hints_below : (n : ℕ) → 32 ≤ words_for n
+pub hints_below : (n : ℕ) → 48 ≤ words_for n
 hints_below n = omega arith
 
 module _ (n : ℕ) where

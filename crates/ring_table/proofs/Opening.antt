@@ -24,7 +24,7 @@ use Rattle.running.proofs.Acts.{led_first}
 use Rattle.running.proofs.Newest.{newest_first}
 use Rattle.running.proofs.Opening.{empties, home_start, home_past, homes_start}
 use Rattle.ring_table.specs.declared.line.SeatLine.TheVariants.{Stock}
-use Rattle.ring_table.specs.Layout.{slot_at, spread, words_for, start_slot, start_at}
+use Rattle.ring_table.specs.Layout.{head_at, tail_at, slot_at, spread, words_for, start_slot, start_at}
 use Rattle.ring_table.specs.Memories.{memory_of}
 use Rattle.ring_table.specs.Seats.{each_resting, passes_of, cells_from}
 use Rattle.ring_table.specs.Core.{cells, core, first_memory, shape_for}
@@ -32,19 +32,19 @@ use Rattle.ring_table.proofs.Memories.{slot_below, slot_beyond, hints_below}
 use Rattle.ring_table.proofs.Laws.{ring_on}
 
 -- the word of slot i
-slot_part : (b : Bool) (i : ℕ) → start_slot (cond b 8 1) (32 + cond b 8 1 * i - 32) ≡ i
+slot_part : (b : Bool) (i : ℕ) → start_slot (cond b 8 1) (48 + cond b 8 1 * i - 48) ≡ i
 slot_part true i =
-    let apart : 32 + 8 * i - 32 ≡ i * 8 + 0 = omega arith in
+    let apart : 48 + 8 * i - 48 ≡ i * 8 + 0 = omega arith in
     ap (start_slot 8) apart ∙ cases (λ (v : ℕ). v ≡ i) (eqb ((i * 8 + 0) % 8) 0) ((i * 8 + 0) / 8) 0 (λ _. div-mul-add i 8 0 (omega arith)) (λ b. let z : (i * 8 + 0) % 8 ≡ 0 = mod-mul-add i 8 0 (omega arith) in absurd (grind (arith, nat_tests)))
 slot_part false i =
-    let apart : 32 + 1 * i - 32 ≡ i * 1 + 0 = omega arith in
+    let apart : 48 + 1 * i - 48 ≡ i * 1 + 0 = omega arith in
     ap (start_slot 1) apart ∙ cases (λ (v : ℕ). v ≡ i) (eqb ((i * 1 + 0) % 1) 0) ((i * 1 + 0) / 1) 0 (λ _. div-mul-add i 1 0 (omega arith)) (λ b. let z : (i * 1 + 0) % 1 ≡ 0 = mod-mul-add i 1 0 (omega arith) in absurd (grind (arith, nat_tests)))
 
 slot_start : (n i : ℕ) → start_at n (slot_at n i) ≡ i
-slot_start n i = cases (λ (v : ℕ). v ≡ i) (ltb (slot_at n i) 32) 0 (start_slot (spread n) (slot_at n i - 32)) (λ b. absurd (grind (arith, nat_tests))) (λ _. slot_part (ltb n 64) i)
+slot_start n i = cases (λ (v : ℕ). v ≡ i) (ltb (slot_at n i) 48) 0 (start_slot (spread n) (slot_at n i - 48)) (λ b. absurd (grind (arith, nat_tests))) (λ _. slot_part (ltb n 64) i)
 
-hint_start : (n k : ℕ) → k < 32 → start_at n k ≡ 0
-hint_start n k low = cases (λ (v : ℕ). v ≡ 0) (ltb k 32) 0 (start_slot (spread n) (k - 32)) (λ _. refl) (λ b. absurd (grind (arith, nat_tests)))
+hint_start : (n k : ℕ) → k < 48 → start_at n k ≡ 0
+hint_start n k low = cases (λ (v : ℕ). v ≡ 0) (ltb k 48) 0 (start_slot (spread n) (k - 48)) (λ _. refl) (λ b. absurd (grind (arith, nat_tests)))
 
 -- a plain number is a word with no tag and no mark
 fields_start : (i : ℕ) → i ≤ NULL → fields_of i ≡ start_word i
@@ -57,7 +57,7 @@ module _ (T : Type 0) (n laps passes : ℕ) (ws : List ℕ) (some_slot : 0 < n) 
   abbrev m : Memory T
   m = memory_of n (n + passes) ws homes
 
-  hint_is : (k : ℕ) → k < 32 → fields_of (slice_index ws k) ≡ start_word 0
+  hint_is : (k : ℕ) → k < 48 → fields_of (slice_index ws k) ≡ start_word 0
   hint_is k low = ap fields_of (is k (let h = hints_below n in omega arith) ∙ hint_start n k low)
 
   slot_is : (i : ℕ) → i < n → m.slot i ≡ start_word i
@@ -67,7 +67,7 @@ module _ (T : Type 0) (n laps passes : ℕ) (ws : List ℕ) (some_slot : 0 < n) 
   slot_past i past = ap fields_of (get_or_past ws (slot_at n i) 0 (let b = slot_beyond n i past in omega (arith, long)))
 
   new : IsNew T n laps (n + passes) m
-  new = record { head = hint_is 0 (omega arith); tail = hint_is 16 (omega arith); slots = slot_is; home = λ c low. home_start T (n + passes) c low }
+  new = record { head = hint_is head_at (omega arith); tail = hint_is tail_at (omega arith); slots = slot_is; home = λ c low. home_start T (n + passes) c low }
 
   slot_first : (i : ℕ) → cond (ltb i n) (start_word i) (start_word 0) ≡ m.slot i
   slot_first i = cases (λ (w : Tagged). w ≡ m.slot i) (ltb i n) (start_word i) (start_word 0) (λ b. sym (slot_is i (grind (arith, nat_tests)))) (λ b. sym (slot_past i (grind (arith, nat_tests))))
@@ -77,7 +77,7 @@ module _ (T : Type 0) (n laps passes : ℕ) (ws : List ℕ) (some_slot : 0 < n) 
 
   -- a new table shows what a new ring has
   pub first_is : first_memory T n laps passes ≡ m
-  first_is = λ t. record { head = sym (hint_is 0 (omega arith)) t; tail = sym (hint_is 16 (omega arith)) t; slot = λ i. slot_first i t; home = λ i. home_first i t }
+  first_is = λ t. record { head = sym (hint_is head_at (omega arith)) t; tail = sym (hint_is tail_at (omega arith)) t; slot = λ i. slot_first i t; home = λ i. home_first i t }
 
   -- the root has the spare cells of all passes
   rest_lines : (p k : ℕ) → each_resting (cells_from (n + p) k) ≡ first_lines (ring {T = T} (shape n laps)) p k

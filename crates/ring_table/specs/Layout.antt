@@ -1,24 +1,24 @@
--- Where the words of a ring lie: the head and the tail, each on cache lines of its own, and then the words of the
--- slots. In a small ring these are 8 words apart, so that each has a cache line of its own.
+-- Where the words of a ring lie: 16 words that never change, the head and the tail, each on cache lines of its own,
+-- and then the words of the slots. In a small ring these are 8 words apart, so that each has a cache line of its own.
 use Rattle.std.specs.Prelude.{ℕ, ◌+◌, ◌-◌, ◌*◌, ◌/◌, ◌%◌, ◌==◌, ltb, if◌then◌else◌}
 use Rattle.ring_machine.specs.declared.lines.Place.{Place}
 use Rattle.ring_machine.specs.declared.lines.Place.TheVariants.{Head, Tail, Slot}
 use Rattle.running.specs.Tables.{Layout}
 
 abbrev pub head_at : ℕ
-head_at = 0
+head_at = 16
 
 abbrev pub tail_at : ℕ
-tail_at = 16
+tail_at = 32
 
 abbrev pub spread : ℕ → ℕ
 spread n = if ltb n 64 then 8 else 1
 
 abbrev pub slot_at : ℕ → ℕ → ℕ
-slot_at n i = 32 + spread n * i
+slot_at n i = 48 + spread n * i
 
 abbrev pub words_for : ℕ → ℕ
-words_for n = 32 + spread n * n
+words_for n = 48 + spread n * n
 
 abbrev pub place_at : ℕ → Place → ℕ
 place_at n Head = head_at
@@ -34,4 +34,4 @@ abbrev pub start_slot : ℕ → ℕ → ℕ
 start_slot apart k = if k % apart == 0 then k / apart else 0
 
 abbrev pub start_at : ℕ → ℕ → ℕ
-start_at n k = if ltb k 32 then 0 else start_slot (spread n) (k - 32)
+start_at n k = if ltb k 48 then 0 else start_slot (spread n) (k - 48)

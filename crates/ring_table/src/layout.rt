@@ -1,17 +1,18 @@
-//! Where the words of a ring lie: the head and the tail, each on cache lines of its own, and then
-//! the words of the slots. In a small ring these are 8 words apart.
+//! Where the words of a ring lie. The first 16 words never change, so that notes and meetings,
+//! which load word 0, load none that calls change. The head and the tail follow, each on cache
+//! lines of its own, and then the words of the slots. In a small ring these are 8 words apart.
 ghost use Rattle.std.specs.Prelude.{◌≡◌, ◌<◌, ◌≤◌};
 ghost use Rattle.tagged_index.specs.declared.word.TheConstants.{NULL};
 ghost use Rattle.ring_table.specs.Layout.{spread, slot_at, words_for, start_at};
 
 /// A position near the front.
-pub const HEAD: usize = 0;
+pub const HEAD: usize = 16;
 
 /// A position near the back.
-pub const TAIL: usize = 16;
+pub const TAIL: usize = 32;
 
 /// The word of the first slot.
-pub const FIRST_SLOT: usize = 32;
+pub const FIRST_SLOT: usize = 48;
 
 /// How far apart the words of two slots are.
 #[inline(always)]

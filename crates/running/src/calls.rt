@@ -1,5 +1,5 @@
 //! Whole calls: an operation's steps, until it stops.
-ghost use Rattle.std.specs.Prelude.{◌≡◌, ◌<◌};
+ghost use Rattle.std.specs.Prelude.{◌≡◌};
 ghost use Rattle.running.specs.Code.{Tells};
 ghost use Rattle.running.specs.Passes.{begun_of};
 ghost use Rattle.running.specs.declared.passes.Pass.{Pass};
@@ -39,7 +39,6 @@ pub fn to_the_end<
     operation: &O,
 ) -> (Pass<T, L>, A)
     requires table { (table.now.key ≡ C.key on.now) × (table.now.table_id ≡ C.id on.now) }
-    requires some_word { 0 < table.now.table_id.words }
     requires ran { (by : Pass T L) × Ran (M.machine (C.key on.now)) (S.account (C.key on.now)) (C.id on.now) operation.now by first.0 first.1 }
     ensures stops { (by : Pass T L) → Ran (M.machine (C.key on.now)) (S.account (C.key on.now)) (C.id on.now) operation.now by first.0 first.1
         → Stops (M.machine (C.key on.now)) (S.account (C.key on.now)) (C.id on.now) operation.now (begun_of (M.machine (C.key on.now)) by) result.0
@@ -74,7 +73,6 @@ fn go_on<
     operation: &O,
 ) -> (Pass<T, L>, A)
     requires table { (table.now.key ≡ C.key on.now) × (table.now.table_id ≡ C.id on.now) }
-    requires some_word { 0 < table.now.table_id.words }
     requires ran { (by : Pass T L) × Ran (M.machine (C.key on.now)) (S.account (C.key on.now)) (C.id on.now) operation.now by first.0 first.1 }
     ensures stops { (by : Pass T L) → Ran (M.machine (C.key on.now)) (S.account (C.key on.now)) (C.id on.now) operation.now by first.0 first.1
         → Stops (M.machine (C.key on.now)) (S.account (C.key on.now)) (C.id on.now) operation.now (begun_of (M.machine (C.key on.now)) by) result.0
@@ -117,7 +115,6 @@ fn run_on<
     pause: Pause,
 ) -> (Pass<T, L>, A)
     requires table { (table.now.key ≡ C.key on.now) × (table.now.table_id ≡ C.id on.now) }
-    requires some_word { 0 < table.now.table_id.words }
     requires named { operation.now ≡ (S.account (C.key on.now)).operation under_way }
     requires stands { Stands (M.machine (C.key on.now)) (S.account (C.key on.now)) (C.id on.now) by under_way }
     ensures stops { Stops (M.machine (C.key on.now)) (S.account (C.key on.now)) (C.id on.now) operation.now (begun_of (M.machine (C.key on.now)) by)
@@ -132,7 +129,8 @@ fn run_on<
             (back, Next::Done(answer)) => {
                 let Pass { seat, density } = back;
                 let refused = S::is_refusal(&answer);
-                let density = at_end::<T, L, O, M>(density, table, pause, refused);
+                let watched = on.watched();
+                let density = at_end::<T, L, O, M>(density, table, watched, pause, refused);
                 return (Pass { seat, density }, answer);
             }
             (next, Next::On(to)) => {
@@ -200,7 +198,6 @@ pub fn try_for<
     steps: u64,
 ) -> Stepped<(Pass<T, L>, S), Pass<T, L>, A>
     requires table { (table.now.key ≡ C.key on.now) × (table.now.table_id ≡ C.id on.now) }
-    requires some_word { 0 < table.now.table_id.words }
     requires ran { (by : Pass T L) × Ran (M.machine (C.key on.now)) (S.account (C.key on.now)) (C.id on.now) operation.now by first.0 first.1 }
     ensures ran { (by : Pass T L) → Ran (M.machine (C.key on.now)) (S.account (C.key on.now)) (C.id on.now) operation.now by first.0 first.1
         → RanFor (M.machine (C.key on.now)) (S.account (C.key on.now)) (C.id on.now) operation.now by result }
@@ -242,7 +239,6 @@ fn run_for<
     steps: u64,
 ) -> Stepped<(Pass<T, L>, S), Pass<T, L>, A>
     requires table { (table.now.key ≡ C.key on.now) × (table.now.table_id ≡ C.id on.now) }
-    requires some_word { 0 < table.now.table_id.words }
     requires named { operation.now ≡ (S.account (C.key on.now)).operation under_way }
     requires stands { Stands (M.machine (C.key on.now)) (S.account (C.key on.now)) (C.id on.now) by under_way }
     ensures ran { RanFor (M.machine (C.key on.now)) (S.account (C.key on.now)) (C.id on.now) operation.now by result }
@@ -257,7 +253,8 @@ fn run_for<
             (back, Next::Done(answer)) => {
                 let Pass { seat, density } = back;
                 let refused = S::is_refusal(&answer);
-                let density = at_end::<T, L, O, M>(density, table, pause, refused);
+                let watched = on.watched();
+                let density = at_end::<T, L, O, M>(density, table, watched, pause, refused);
                 return Stepped::Done(Pass { seat, density }, answer);
             }
             (next, Next::On(to)) => {

@@ -1,5 +1,5 @@
 //! The code of an operation: two functions of what it is at.
-ghost use Rattle.std.specs.Prelude.{◌≡◌};
+ghost use Rattle.std.specs.Prelude.{◌≡◌, ◌<◌};
 ghost use Rattle.atomic_table.specs.Seated.{TableId};
 ghost use Rattle.tagged_index.specs.declared.limit.Limits.{Limits};
 ghost use Rattle.running.specs.Code.{Account, IsAccess, Came, Finding, Leads, Tells};
@@ -25,6 +25,11 @@ pub trait OnTable {
     ghost key: { Self → Limits };
 
     ghost id: { Self → TableId };
+
+    /// The word that a pass looks at, to see whether other threads got something done: one that many
+    /// calls change.
+    fn watched(&self) -> usize
+        ensures { result < (id self.now).words };
 }
 
 /// The states of an operation between two of its atomic steps, on a container `C` of a machine `M`

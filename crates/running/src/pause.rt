@@ -7,26 +7,21 @@ use backoff::{Density, Pause};
 use machine::View;
 use tagged_index::Limits;
 
-/// The word that a pass looks at. In a queue and a stack it is the top of the free cells or nodes,
-/// which each put and each take of a value changes. In a ring it is a position near the front,
-/// which only some takes change. So a ring's pass may miss that another thread was busy. It then
-/// waits a little shorter than it could, and no promise depends on that.
-const WATCHED: usize = 0;
-
-/// The density when a call begins. If the last call kept a hash, this call looks whether other
-/// threads got something done while the caller was away.
+/// The density when a call begins. If the last call kept a hash, this call looks at the watched
+/// word, to see whether other threads got something done while the caller was away.
 #[inline(always)]
 pub(crate) fn at_begin<T, L, O, M: Machine<T, L, O>>(
     density: Density,
     table: &Shared<Option<T>, View<T, L>, Limits, Running<O, M>>,
+    watched: usize,
 ) -> Density
-    requires { 0 < table.now.table_id.words }
+    requires { watched < table.now.table_id.words }
 {
     if !density.is_marked() {
         return density;
     }
     Density {
-        number: look::<T, L, O, M>(density.number, table),
+        number: look::<T, L, O, M>(density.number, table, watched),
     }
 }
 
@@ -37,10 +32,11 @@ pub(crate) fn at_begin<T, L, O, M: Machine<T, L, O>>(
 fn look<T, L, O, M: Machine<T, L, O>>(
     number: u32,
     table: &Shared<Option<T>, View<T, L>, Limits, Running<O, M>>,
+    watched: usize,
 ) -> u32
-    requires { 0 < table.now.table_id.words }
+    requires { watched < table.now.table_id.words }
 {
-    let found = table.peek(WATCHED);
+    let found = table.peek(watched);
     Density { number }.after_look(found).number
 }
 
@@ -50,13 +46,14 @@ fn look<T, L, O, M: Machine<T, L, O>>(
 pub(crate) fn at_end<T, L, O, M: Machine<T, L, O>>(
     density: Density,
     table: &Shared<Option<T>, View<T, L>, Limits, Running<O, M>>,
+    watched: usize,
     pause: Pause,
     refused: bool,
 ) -> Density
-    requires { 0 < table.now.table_id.words }
+    requires { watched < table.now.table_id.words }
 {
     if pause.has_failed() && !refused {
-        density.after_failure(table.peek(WATCHED))
+        density.after_failure(table.peek(watched))
     } else {
         density
     }

@@ -1,5 +1,5 @@
 //! One atomic step of an operation, for all operations on all machines.
-ghost use Rattle.std.specs.Prelude.{◌≡◌, ◌<◌};
+ghost use Rattle.std.specs.Prelude.{◌≡◌};
 ghost use Rattle.running.specs.Going.{At};
 ghost use Rattle.bounded_model.specs.Stepping.{OneStep};
 ghost use Rattle.running.specs.Passes.{pass_in};
@@ -373,14 +373,13 @@ pub fn first_step<
     operation: &O,
 ) -> (Pass<T, L>, Next<S, A>)
     requires table { (table.now.key ≡ C.key on.now) × (table.now.table_id ≡ C.id on.now) }
-    requires some_word { 0 < table.now.table_id.words }
     requires named { operation.now ≡ (S.account (C.key on.now)).operation at }
     requires stands { Stands (M.machine (C.key on.now)) (S.account (C.key on.now)) (C.id on.now) by at }
     ensures ran { Ran (M.machine (C.key on.now)) (S.account (C.key on.now)) (C.id on.now) operation.now by result.0 result.1 }
     ensures told { Tells (S.account (C.key on.now)).told at result.1 }
 {
     let Pass { seat, density } = by;
-    let density = at_begin::<T, L, O, M>(density, table);
+    let density = at_begin::<T, L, O, M>(density, table, on.watched());
     let by = Pass { seat, density };
     any::<C, T, L, O, M, A, S, N>(table, on, by, at, operation)
 }

@@ -25,7 +25,7 @@ use Rattle.running.specs.Lists.{Listed, Hosts, Ready, BroughtBy, ReturnedBy, ste
 use Rattle.running.proofs.Hosting.{laws}
 use Rattle.running.proofs.Slots.{turned_twice, turned_so}
 use Rattle.running.proofs.Indexes.{times_holds, leads_low, stands_in, once_below, listed}
-use Rattle.stack_table.specs.Layout.{link_at}
+use Rattle.stack_table.specs.Layout.{free_at, top_at, link_at, words_for}
 use Rattle.index_list.specs.declared.front.Front.{Front}
 use Rattle.index_list.specs.declared.front.Front.TheVariants.{First, Last}
 use Rattle.stack_table.specs.Core.{core}
@@ -97,11 +97,11 @@ module _ {T : Type 0} (n limit : ℕ) (words : List ℕ) (homes : List (Option (
     returned (GiveBack give w) zs f fits = ap (λ (ys : List (ℕ × Slot T)). numbers ys) fits ∙ numbers_vacant T give.chain
     returned l zs f fits = tt
 
-top_low : (first_list : Bool) (n : ℕ) → cond first_list 0 16 < 32 + n
+top_low : (first_list : Bool) (n : ℕ) → cond first_list free_at top_at < words_for n
 top_low true n = omega arith
 top_low false n = omega arith
 
-link_off : (first_list : Bool) (i : ℕ) → link_at i ≡ cond first_list 0 16 → ⊥
+link_off : (first_list : Bool) (i : ℕ) → link_at i ≡ cond first_list free_at top_at → ⊥
 link_off true i e = omega arith
 link_off false i e = omega arith
 

@@ -22,19 +22,19 @@ use Rattle.running.specs.Rule.{Rule}
 use Rattle.running.proofs.Acts.{led_first}
 use Rattle.running.proofs.Newest.{newest_first}
 use Rattle.running.proofs.Opening.{empties, home_start, home_past, homes_start, first_who, nobody, below_or_not}
-use Rattle.stack_table.specs.Layout.{link_at, words_for, start_at}
+use Rattle.stack_table.specs.Layout.{free_at, top_at, link_at, words_for, start_at}
 use Rattle.stack_table.specs.Memories.{memory_of, at_home}
 use Rattle.stack_table.specs.Core.{core}
 use Rattle.stack_table.proofs.Laws.{laws, stack}
 
 start_links : (n i : ℕ) → start_at n (link_at i) ≡ start_link n i
-start_links n i = cases (λ v. v ≡ start_link n i) (eqb (32 + i) 16) NULL (cond (ltb (32 + i) 32) 0 (cond (eqb (32 + i) (31 + n)) NULL (32 + i - 31)))
+start_links n i = cases (λ v. v ≡ start_link n i) (eqb (48 + i) top_at) NULL (cond (ltb (48 + i) 48) 0 (cond (eqb (48 + i) (47 + n)) NULL (48 + i - 47)))
     (λ b. absurd (grind (arith, nat_tests)))
-    (λ _. cases (λ v. v ≡ start_link n i) (ltb (32 + i) 32) 0 (cond (eqb (32 + i) (31 + n)) NULL (32 + i - 31))
+    (λ _. cases (λ v. v ≡ start_link n i) (ltb (48 + i) 48) 0 (cond (eqb (48 + i) (47 + n)) NULL (48 + i - 47))
     (λ b. absurd (grind (arith, nat_tests)))
-    (λ _. cases (λ v. v ≡ start_link n i) (eqb (32 + i) (31 + n)) NULL (32 + i - 31)
+    (λ _. cases (λ v. v ≡ start_link n i) (eqb (48 + i) (47 + n)) NULL (48 + i - 47)
     (λ b. cases (λ v. NULL ≡ v) (eqb (i + 1) n) NULL (i + 1) (λ _. refl) (λ c. absurd (grind (arith, nat_tests))))
-    (λ b. cases (λ v. 32 + i - 31 ≡ v) (eqb (i + 1) n) NULL (i + 1) (λ c. absurd (grind (arith, nat_tests))) (λ _. omega arith))))
+    (λ b. cases (λ v. 48 + i - 47 ≡ v) (eqb (i + 1) n) NULL (i + 1) (λ c. absurd (grind (arith, nat_tests))) (λ _. omega arith))))
 
 start_small : (n i : ℕ) → i < n → n ≤ NULL → start_link n i ≤ NULL
 start_small n i h small = cases (λ v. v ≤ NULL) (eqb (i + 1) n) NULL (i + 1) (λ _. omega arith) (λ _. omega arith)
@@ -51,8 +51,8 @@ module _ {T : Type 0} (n limit : ℕ) where
   -- a new table shows what a new stack has
   first_is : (ws : List ℕ) → length ws ≡ words_for n → ((k : ℕ) → k < words_for n → slice_index ws k ≡ start_at n k) → start (shape n limit) ≡ memory_of ws (empties T n)
   first_is ws long is = λ t. record {
-    free = sym (ap fields_of (is 0 (omega arith))) t;
-    top = sym (ap fields_of (is 16 (omega arith))) t;
+    free = sym (ap fields_of (is free_at (omega arith))) t;
+    top = sym (ap fields_of (is top_at (omega arith))) t;
     link = λ i. link_first n ws long is i t;
     home = λ i. slot_first i t;
   }

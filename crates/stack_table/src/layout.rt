@@ -1,6 +1,7 @@
-//! Where the words of a stack lie. The tops of the free list and of the stack are 16 words apart,
-//! so that each has cache lines of its own. One link for each node follows, and serves whichever
-//! list the node is on.
+//! Where the words of a stack lie. The first 16 words never change, so that notes and meetings,
+//! which load word 0, load none that calls change. The tops of the free list and of the stack
+//! follow, 16 words apart, so that each has cache lines of its own. Then comes one link for each
+//! node, which serves whichever list the node is on.
 ghost use Rattle.std.specs.Prelude.{◌≡◌, ◌<◌, ◌≤◌};
 ghost use Rattle.tagged_index.specs.declared.word.TheConstants.{NULL};
 ghost use Rattle.stack_table.specs.Layout.{link_at, words_for, start_at};
@@ -8,10 +9,10 @@ ghost use Rattle.stack_table.specs.Layout.{link_at, words_for, start_at};
 use tagged_index::NULL;
 
 /// The top of the free nodes.
-pub const FREE: usize = 0;
+pub const FREE: usize = 16;
 
 /// The top of the stack.
-pub const TOP: usize = 16;
+pub const TOP: usize = 32;
 
 /// The free nodes as a list of the machine.
 pub const FREE_LIST: usize = 0;
@@ -19,7 +20,7 @@ pub const FREE_LIST: usize = 0;
 /// The stack as a list of the machine.
 pub const STACK_LIST: usize = 1;
 
-const FIRST_LINK: usize = 32;
+const FIRST_LINK: usize = 48;
 
 /// The word that is the link of a node.
 #[inline]

@@ -8,6 +8,7 @@ use atomic_table::{Shared, Table};
 use machine::View;
 use queue_machine::Line;
 use queue_table::Operation;
+use queue_table::layout::CELLS;
 use running::{HasTable, Keeping, OnTable, Running};
 use std::alloc::Global;
 use tagged_index::Limits;
@@ -43,6 +44,12 @@ impl<T> OnTable for Queue<T> {
     ghost key = { λ c. c.table.shared.key };
 
     ghost id = { λ c. c.table.shared.table_id };
+
+    // The top of the free cells, which each put and each take of a value changes.
+    #[inline(always)]
+    fn watched(&self) -> usize {
+        CELLS
+    }
 }
 
 impl<T> HasTable<T, Line<T>, Operation<T>, Queued> for Queue<T> {

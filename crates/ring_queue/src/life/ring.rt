@@ -9,6 +9,7 @@ use crate::life::spare::Spare;
 use crate::rule::Ringed;
 use atomic_table::{Shared, Table};
 use machine::View;
+use ring_table::layout::HEAD;
 use ring_table::{Operation, SeatLine};
 use running::{HasTable, Keeping, OnTable, Running};
 use std::alloc::Global;
@@ -55,6 +56,14 @@ impl<T> OnTable for RingQueue<T> {
     ghost key = { λ c. c.table.shared.key };
 
     ghost id = { λ c. c.table.shared.table_id };
+
+    // A position near the front, which only some takes change. So a pass may miss that another
+    // thread was busy. It then waits a little shorter than it could, and no promise depends on
+    // that.
+    #[inline(always)]
+    fn watched(&self) -> usize {
+        HEAD
+    }
 }
 
 impl<T> HasTable<T, SeatLine<T>, Operation<T>, Ringed> for RingQueue<T> {

@@ -9,6 +9,7 @@ use machine::View;
 use running::{HasTable, Keeping, OnTable, Running};
 use stack_machine::Line;
 use stack_table::Operation;
+use stack_table::layout::FREE;
 use std::alloc::Global;
 use tagged_index::Limits;
 
@@ -43,6 +44,12 @@ impl<T> OnTable for Stack<T> {
     ghost key = { λ c. c.table.shared.key };
 
     ghost id = { λ c. c.table.shared.table_id };
+
+    // The top of the free nodes, which each put and each take of a value changes.
+    #[inline(always)]
+    fn watched(&self) -> usize {
+        FREE
+    }
 }
 
 impl<T> HasTable<T, Line<T>, Operation<T>, Stacked> for Stack<T> {
