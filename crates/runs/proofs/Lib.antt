@@ -12,3 +12,4 @@ pub mod Hands
 pub mod WrongTables
 pub mod InTime
 pub mod Effects
+pub mod WrongCalls

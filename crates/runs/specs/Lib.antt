@@ -5,3 +5,4 @@ pub mod Work
 pub mod Table
 pub mod WrongTables
 pub mod InTime
+pub mod WrongCalls

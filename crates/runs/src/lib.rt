@@ -9,5 +9,5 @@ mod shown;
 
 pub use counting::step_for;
 pub use full::full_means_full;
-pub use order::{calls_in_one_order, each_call_did_once};
+pub use order::{calls_in_one_order, calls_near_misses, each_call_did_once};
 pub use shown::seats_near_misses;

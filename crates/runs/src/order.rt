@@ -1,5 +1,5 @@
 //! The order in which the calls of all passes stand.
-ghost use Rattle.std.specs.Prelude.{◌≡◌, ℕ, Bool, List, Result};
+ghost use Rattle.std.specs.Prelude.{◌≡◌, ℕ, Bool, List, [], ◌∷◌, Result};
 ghost use Rattle.std.specs.List.{AllByRecursion};
 ghost use Rattle.bounded_model.specs.declared.answers.PutRefused.{PutRefused};
 ghost use Rattle.bounded_model.specs.declared.answers.TakeRefused.{TakeRefused};
@@ -31,6 +31,7 @@ ghost use Rattle.runs.specs.InTime.{
   shut_effect,
   take_effect,
 };
+ghost use Rattle.runs.specs.WrongCalls.{first_call, late_call, second_call};
 
 /// By its contract, each call did what it answers at one moment, between what its pass had seen as the
 /// call began and as it ended. At that moment its event happened, or what it found was so.
@@ -64,4 +65,11 @@ pub fn each_call_did_once<T>()
 pub fn calls_in_one_order<T>()
     ensures { (c : Shape) (h : List (Event T)) (calls : List (KnownCall T))
         → AllByRecursion (IsCallOf c h) calls → InTurn calls → InOneOrder c h calls }
+{}
+
+/// Near misses of that order: a pass's two puts that are listed the wrong way round, and a call whose
+/// event had happened before the call began.
+pub fn calls_near_misses()
+    ensures out_of_turn_refused { ¬ InTurn (second_call ∷ first_call ∷ []) }
+    ensures late_call_refused { (c : Shape) (h : List (Event ℕ)) → ¬ InOneOrder c h (late_call ∷ []) }
 {}
