@@ -1,9 +1,7 @@
 pub mod AsBox
 pub mod New
-pub mod NoRoom
 pub mod Stays
-pub mod Rests
-pub mod QueueStays
-pub mod RingStays
-pub mod StackStays
 pub mod Shared
+pub mod Works
+pub mod Ranges
+pub mod Splitting

@@ -1,4 +1,4 @@
--- A call of a pass that its fast path left under way, and that was then gone on with.
+-- A call of a pass that was tried, or that its fast path left under way and that was then tried on; and a work of it.
 use Rattle.std.proofs.Common.{subst, arith}
 use Rattle.std.specs.Prelude.{◌≡◌, ℕ, ◌+◌, ◌≤◌, Some, MatchOption}
 use Rattle.bounded_model.specs.declared.answers.Stepped.{Stepped}
@@ -6,31 +6,43 @@ use Rattle.bounded_model.specs.declared.answers.Stepped.TheVariants.{Again, Done
 use Rattle.bounded_model.specs.declared.commands.Command.{Command}
 use Rattle.bounded_model.specs.declared.commands.Reply.{Reply}
 use Rattle.bounded_model.specs.declared.views.PassView.{PassView}
-use Rattle.bounded_calls.specs.Calls.{Reading, TookAtLeast, TookFor, Tried, TriedFrom}
-use Rattle.lockfree_c.specs.Codes.{bare}
-use Rattle.lockfree_c.specs.Stages.{LeftBy, Tries, WentOn}
+use Rattle.lockfree_c.specs.Calls.{Reading, TookAtLeast, TookFor, TriedFrom}
+use Rattle.lockfree_c.specs.Passes.{IfRests, PassBegan, PassCalled, PassKept, PassTried}
+use Rattle.lockfree_c.specs.Stages.{LeftBy, Works}
 use Rattle.lockfree_c.specs.declared.answers.Answer.{Answer}
-use Rattle.lockfree_c.specs.declared.answers.TheConstants.{NO_CALL}
-use Rattle.lockfree_c.specs.declared.stage.Stage.{Stage}
-
-module _ {P O : Type 0} (r : Reading ℕ P O) (n : ℕ) (begun : PassView ℕ) (call : Command ℕ) (op : O) where
-  -- n steps of an operation that has made some already
-  pub steps_more : (made : Stepped O P (Reply ℕ)) → begun.steps ≤ (r.making op).now.steps → TookFor r n op made → TookAtLeast r n begun made
-  steps_more (Again next) least took = let e : (r.making next).now.steps ≡ (r.making op).now.steps + n = took in omega (arith, e, least)
-  steps_more (Done back said) least took = tt
-
-  pub goes_further : (t : Stage P O) (a : Answer) → r.is_making call op → (r.making op).begun ≡ begun → begun.steps ≤ (r.making op).now.steps
-      → (made : Stepped O P (Reply ℕ)) → ((k : Command ℕ) → r.is_making k op → TriedFrom r (r.making op).begun k made) → TookFor r n op made → LeftBy made t a → Tries r n begun call t a
-  goes_further t a is same least made tried took left = (made, subst (λ b. TriedFrom r b call made) same (tried call is), steps_more made least took, left)
+use Rattle.lockfree_c.specs.declared.answers.TheConstants.{UNDER_WAY}
+use Rattle.lockfree_c.specs.declared.pass.PassOf.{PassOf}
+use Rattle.lockfree_c.specs.declared.work.Worked.{Worked}
 
 -- no steps at the least are none
 pub at_least : (m n : ℕ) → m + 0 ≤ n → m ≤ n
 at_least m n e = omega (arith, e)
 
--- the call that is under way was tried further
-pub went_on : {P O : Type 0} (r : Reading ℕ P O) (n : ℕ) (s : Stage P O) (op : O) (t : Stage P O) (a : Answer) → Some op ≡ s.under_way
-    → (made : Stepped O P (Reply ℕ)) → Tried r op made → TookFor r n op made → LeftBy made t a → WentOn r n s t a
-went_on {P} {O} r n s op t a is made tried took left =
-    subst (λ u. MatchOption u ((a ≡ bare NO_CALL) × (t ≡ s))
-    (λ o. (m : Stepped O P (Reply ℕ)) × ((k : Command ℕ) → r.is_making k o → TriedFrom r (r.making o).begun k m) × TookFor r n o m × LeftBy m t a))
-    is (made, tried, took, left)
+-- this was done since the pass rests
+pub since_rests : {C P O W : Type 0} (p q : PassOf C P O W) (a : Answer) (by : P) (Does : P → Type 0) → Some by ≡ p.stage.resting
+    → q.container.value ≡ p.container.value → Does by → IfRests p q a Does
+since_rests p q a by Does rests same does =
+    subst (λ x. MatchOption x (PassKept UNDER_WAY p q a) (λ b. (q.container.value ≡ p.container.value) × Does b)) rests (same, does)
+
+module _ {C R P O W : Type 0} (reading : C → Reading R P O W) (n : ℕ) (p q : PassOf C P O W) (a : Answer) (by : P) (call : Command ℕ) where
+  abbrev pub r : Reading R P O W
+  r = reading p.container.value
+
+  -- n steps of an operation that has made some already
+  steps_more : (op : O) (made : Stepped O P (Reply ℕ)) → (r.pass by).steps ≤ (r.making op).now.steps → TookFor r n op made → TookAtLeast r n (r.pass by) made
+  steps_more op (Again next) least took = let e : (r.making next).now.steps ≡ (r.making op).now.steps + n = took in omega (arith, e, least)
+  steps_more op (Done back said) least took = tt
+
+  pub ended : (back : P) (said : Reply ℕ) → Some by ≡ p.stage.resting → q.container.value ≡ p.container.value
+      → TriedFrom r (r.pass by) call (Done back said) → LeftBy (Done back said) q.stage a → PassCalled reading n p call q a
+  ended back said rests same tried left = since_rests p q a by _ rests same (Done back said, tried, tt, left)
+
+  pub tried_on : (op : O) → Some by ≡ p.stage.resting → r.is_making call op → (r.making op).begun ≡ r.pass by → (r.pass by).steps ≤ (r.making op).now.steps
+      → PassTried reading n p op q a → PassCalled reading n p call q a
+  tried_on op rests is same least went = let tries = went.1 in since_rests p q a by _ rests went.0
+      (tries.0, subst (λ b. TriedFrom r b call tries.0) same (tries.1 call is), steps_more op tries.0 least tries.2, tries.3)
+
+-- a work that its pass began was tried
+pub began : {C R P O W : Type 0} (reading : C → Reading R P O W) (Made : PassView ℕ → Worked W P → Type 0) (p q : PassOf C P O W) (a : Answer) (by : P)
+    → Some by ≡ p.stage.resting → q.container.value ≡ p.container.value → Works (Made ((reading p.container.value).pass by)) q.stage a → PassBegan reading Made p q a
+began reading Made p q a by rests same works = since_rests p q a by (λ b. Works (Made ((reading p.container.value).pass b)) q.stage a) rests same works

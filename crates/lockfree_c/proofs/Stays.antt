@@ -1,38 +1,54 @@
--- A tried call leaves its pass at rest or in that call.
-use Rattle.std.proofs.Common.{sym, ◌∙◌, subst}
+-- A tried call, or a tried work, leaves its pass at rest or with something under way.
+use Rattle.std.proofs.Common.{sym, subst}
 use Rattle.std.specs.Prelude.{◌≡◌, ℕ, Option, Some, None, MatchOption}
 use Rattle.bounded_model.specs.declared.answers.Stepped.{Stepped}
-use Rattle.bounded_model.specs.declared.answers.Stepped.TheVariants.{Again, Done}
+use Rattle.bounded_model.specs.declared.answers.Stepped.TheVariants as stepped
 use Rattle.bounded_model.specs.declared.commands.Command.{Command}
 use Rattle.bounded_model.specs.declared.commands.Reply.{Reply}
 use Rattle.bounded_model.specs.declared.views.PassView.{PassView}
-use Rattle.bounded_calls.specs.Calls.{Reading, MakesSome, Tried, TriedFrom}
-use Rattle.lockfree_c.specs.Codes.{bare}
-use Rattle.lockfree_c.specs.Stages.{IsStage, LeftBy, Called, Tries}
+use Rattle.lockfree_c.specs.Calls.{IsWorked, MakesSome, Reading, Tried, TriedFrom}
+use Rattle.lockfree_c.specs.Codes.{number_in, work_number}
+use Rattle.lockfree_c.specs.Stages.{IsIn, IsStage, IsUnderWay, LeftBy, Rests, SettledBy}
 use Rattle.lockfree_c.specs.declared.answers.Answer.{Answer}
-use Rattle.lockfree_c.specs.declared.answers.TheConstants.{UNDER_WAY}
 use Rattle.lockfree_c.specs.declared.stage.Stage.{Stage}
+use Rattle.lockfree_c.specs.declared.work.UnderWay.{UnderWay}
+use Rattle.lockfree_c.specs.declared.work.UnderWay.TheVariants.{Nothing, Call, Work}
+use Rattle.lockfree_c.specs.declared.work.Worked.{Worked}
+use Rattle.lockfree_c.specs.declared.work.Worked.TheVariants.{Again, Value, Waits, Done}
 
-module _ {P O : Type 0} (r : Reading ℕ P O) where
-  abbrev pub At : Option P → Option O → Type 0
-  At resting under_way = MatchOption resting (MatchOption under_way ⊥ (MakesSome r)) (λ by. r.is_pass by × (under_way ≡ None))
+module _ {R P O W : Type 0} (r : Reading R P O W) where
+  abbrev pub At : Option P → UnderWay O W → Type 0
+  At resting under_way = MatchOption resting (IsUnderWay r under_way) (λ by. r.is_pass by × (under_way ≡ Nothing))
 
-  pub stays : (begun : PassView ℕ) (call : Command ℕ) (made : Stepped O P (Reply ℕ)) (s : Stage P O) (a : Answer) → TriedFrom r begun call made → LeftBy made s a → IsStage r s
-  stays begun call (Again next) s a tried left = subst (λ x. At x s.under_way) (sym left.0) (subst (λ u. At None u) (sym left.1) (call, tried.0))
-  stays begun call (Done back said) s a tried left = subst (λ x. At x s.under_way) (sym left.0) (tried.0, left.1)
+  -- something is under way, or the pass is back
+  pub is_in : (s : Stage P O W) (u : UnderWay O W) → IsIn s u → IsUnderWay r u → IsStage r s
+  is_in s u in_it is = subst (λ x. At x s.under_way) (sym in_it.0) (subst (λ v. At None v) (sym in_it.1) is)
 
-  -- where a call is under way, no pass rests
-  some_call : (resting : Option P) (under_way : Option O) (op : O) → At resting under_way → Some op ≡ under_way → MakesSome r op
-  some_call None under_way op at e = subst (λ u. MatchOption u ⊥ (MakesSome r)) (sym e) at
-  some_call (Some by) under_way op at e = absurd (subst (λ u. MatchOption u ⊥ (λ _. Unit {0})) (e ∙ at.1) tt)
+  pub is_back : (s : Stage P O W) (by : P) (n : ℕ) → Rests s by n → r.is_pass by → IsStage r s
+  is_back s by n rests is = subst (λ x. At x s.under_way) (sym rests.0) (is, rests.1)
 
-  -- a call that was under way is tried
-  pub goes_on : (s : Stage P O) (op : O) (made : Stepped O P (Reply ℕ)) (t : Stage P O) (a : Answer) → IsStage r s → Some op ≡ s.under_way → Tried r op made → LeftBy made t a → IsStage r t
-  goes_on s op made t a is e tried left = let makes = some_call s.resting s.under_way op is e in stays (r.making op).begun makes.0 made t a (tried makes.0 makes.1) left
+  pub stays : (begun : PassView ℕ) (call : Command ℕ) (made : Stepped O P (Reply ℕ)) (s : Stage P O W) (a : Answer) → TriedFrom r begun call made → LeftBy made s a → IsStage r s
+  stays begun call (stepped.Again next) s a tried left = is_in s (Call next) left.0 (call, tried.0)
+  stays begun call (stepped.Done back said) s a tried left = is_back s back (number_in said) left.0 tried.0
 
-  -- a call that is under way stands where no pass rests
-  pub set_out : (call : Command ℕ) (resting : Option P) (op : O) (n : ℕ) → resting ≡ None → r.is_making call op → IsStage r (record { resting = resting; under_way = Some op; number = n })
-  set_out call resting op n e making = subst (λ x. At x (Some op)) (sym e) (call, making)
+  -- a call that was under way was tried, whichever it is
+  pub tries_on : (op : O) (made : Stepped O P (Reply ℕ)) (s : Stage P O W) (a : Answer) → MakesSome r op → Tried r op made → LeftBy made s a → IsStage r s
+  tries_on op made s a makes tried left = stays (r.making op).begun makes.0 made s a (tried makes.0 makes.1) left
 
-  pub called : (n : ℕ) (s : Stage P O) (by : P) (call : Command ℕ) (t : Stage P O) (a : Answer) → Some by ≡ s.resting → Tries r n (r.pass by) call t a → Called r n s call t a
-  called n s by call t a rests left = subst (λ x. MatchOption x ((a ≡ bare UNDER_WAY) × (t ≡ s)) (λ p. Tries r n (r.pass p) call t a)) rests left
+  pub settles : (made : Worked W P) (s : Stage P O W) (a : Answer) → IsWorked r made → SettledBy made s a → IsStage r s
+  settles (Again next) s a is left = is_in s (Work next) left.0 is
+  settles (Value x next) s a is left = is_in s (Work next) left.0 is
+  settles (Waits next) s a is left = is_in s (Work next) left.0 is
+  settles (Done back said) s a is left = is_back s back (work_number said) left.0 is
+
+  -- where something is under way, no pass rests
+  busy_at : (resting : Option P) (u : UnderWay O W) → At resting u → (u ≡ Nothing → ⊥) → IsUnderWay r u
+  busy_at None u at busy = at
+  busy_at (Some by) u at busy = absurd (busy at.1)
+
+  pub busy_with : (s : Stage P O W) (u : UnderWay O W) → IsStage r s → u ≡ s.under_way → (u ≡ Nothing → ⊥) → IsUnderWay r u
+  busy_with s u is same busy = busy_at s.resting u (subst (λ v. At s.resting v) (sym same) is) busy
+
+  -- where a pass rests, nothing is under way
+  pub rests_at : (s : Stage P O W) (by : P) → IsStage r s → Some by ≡ s.resting → r.is_pass by × (s.under_way ≡ Nothing)
+  rests_at s by is rests = subst (λ x. At x s.under_way) (sym rests) is

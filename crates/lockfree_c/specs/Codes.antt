@@ -11,6 +11,8 @@ use Rattle.bounded_model.specs.declared.bulk.RangeRefused.TheVariants as range
 use Rattle.bounded_model.specs.declared.commands.Reply.{Reply}
 use Rattle.bounded_model.specs.declared.commands.Reply.TheVariants.{Put, Take, Close, Shut, Look}
 use Rattle.lockfree_c.specs.declared.answers.Answer.{Answer}
+use Rattle.lockfree_c.specs.declared.work.Said.{Said}
+use Rattle.lockfree_c.specs.declared.work.Said.TheVariants as said
 use Rattle.lockfree_c.specs.declared.answers.TheConstants.{OK, FULL, EMPTY, CLOSED, SHUT, SPENT}
 
 -- a code alone
@@ -75,3 +77,16 @@ fold_number (Err why) = 0
 abbrev pub range_number : Result Ranged RangeRefused → ℕ
 range_number (Ok r) = r.number
 range_number (Err why) = 0
+
+-- what a whole count, gauge, fold or put of a range answered
+abbrev pub SaysWork : Said → Answer → Type 0
+SaysWork (said.Count n) a = a ≡ saying OK n
+SaysWork (said.Gauge closed used) a = SaysGauge closed used a
+SaysWork (said.Fold made) a = SaysFold made a
+SaysWork (said.Range made) a = SaysRange made a
+
+-- a count and a gauge have no number
+abbrev pub work_number : Said → ℕ
+work_number (said.Fold made) = fold_number made
+work_number (said.Range made) = range_number made
+work_number made = 0

@@ -3,8 +3,7 @@ use Rattle.std.specs.Prelude.{◌≡◌, ℕ, Bool, true, false, List, Result, M
 use Rattle.bounded_model.specs.declared.commands.Command.{Command}
 use Rattle.index_list.specs.declared.front.Front.{Front}
 use Rattle.lockfree_c.specs.Codes.{bare}
-use Rattle.lockfree_c.specs.Gauges.{HeldGauged}
-use Rattle.lockfree_c.specs.Held.{IsHeld, Continues, HeldAdded, HeldCalled, HeldCopied, HeldCounted, HeldFinished, HeldFolded, HeldNumber, HeldRangePut, HeldWentOn, HeldSplit, NewRefused}
+use Rattle.lockfree_c.specs.Held.{IsHeld, HeldAdded, HeldCalled, HeldContinues, HeldCopied, HeldCounted, HeldFinished, HeldFolded, HeldGauged, HeldNumber, HeldRangePut, HeldWentOn, HeldSplit, NewRefused}
 use Rattle.lockfree_c.specs.declared.answers.Answer.{Answer}
 use Rattle.lockfree_c.specs.declared.answers.TheConstants.{OK, NO_HANDLE, IN_USE}
 use Rattle.lockfree_c.specs.declared.held.Held.{Held}
@@ -62,7 +61,7 @@ SlotRangePut s t a = Either s.full
 
 -- a put of an array that is under way continues with that array
 abbrev pub SlotContinues : Slot → List ℕ → Type 0
-SlotContinues s values = s.full ≡ true → Continues s.handle.held values
+SlotContinues s values = s.full ≡ true → HeldContinues s.handle.held values
 
 abbrev pub SlotCopied : Slot → List ℕ → Slot → Answer → Type 0
 SlotCopied s values t a = Either s.full

@@ -1,4 +1,5 @@
 //! The functions that make a container for C. Each writes its root to a slot that is empty.
+ghost use Rattle.std.specs.Prelude.{◌≡◌, false, MatchResult};
 ghost use Rattle.ring_queue.specs.declared.life.limits.TheConstants.{MAX_LAPS};
 ghost use Rattle.tagged_index.specs.declared.word.TheConstants.{MAX_TAG};
 ghost use Rattle.lockfree_c.specs.Held.{
@@ -8,14 +9,31 @@ ghost use Rattle.lockfree_c.specs.Held.{
   IsNewRing,
   IsNewStack,
 };
-ghost use Rattle.lockfree_c.specs.Slots.{IsSlot, SlotNew};
+ghost use Rattle.lockfree_c.specs.Slots.{Holds, IsEmpty, IsSlot, SlotNew};
 
 use crate::answers::{IN_USE, OK};
+use crate::held::Held;
 use crate::making::{boxed_queue, boxed_ring, boxed_stack};
 use crate::slot::Slot;
 use ring_queue::MAX_LAPS;
 use std::alloc::Global;
 use tagged_index::MAX_TAG;
+
+// Writes a new root to a slot that is empty, or gives the reason why there is none.
+fn place(root: &mut Slot, made: Result<Box<Held, Global>, u32>) -> u32
+    requires { root.old.full ≡ false }
+    ensures { MatchResult made
+        (λ b. Holds root.new b.value × (result ≡ OK))
+        (λ code. IsEmpty root.new × (result ≡ code)) }
+{
+    match made {
+        Ok(held) => {
+            root.put(held);
+            OK
+        }
+        Err(code) => code,
+    }
+}
 
 // Makes a queue, and writes its root to a slot that is empty.
 fn make_queue(alloc: Global, root: &mut Slot, capacity: u32, tag_limit: u64) -> u32
@@ -26,13 +44,7 @@ fn make_queue(alloc: Global, root: &mut Slot, capacity: u32, tag_limit: u64) -> 
     if root.full {
         return IN_USE;
     }
-    match boxed_queue(alloc, capacity, tag_limit) {
-        Ok(held) => {
-            root.put(held);
-            OK
-        }
-        Err(code) => code,
-    }
+    place(root, boxed_queue(alloc, capacity, tag_limit))
 }
 
 // Makes a stack, and writes its root to a slot that is empty.
@@ -44,13 +56,7 @@ fn make_stack(alloc: Global, root: &mut Slot, capacity: u32, tag_limit: u64) -> 
     if root.full {
         return IN_USE;
     }
-    match boxed_stack(alloc, capacity, tag_limit) {
-        Ok(held) => {
-            root.put(held);
-            OK
-        }
-        Err(code) => code,
-    }
+    place(root, boxed_stack(alloc, capacity, tag_limit))
 }
 
 // Makes a ring, and writes its root to a slot that is empty.
@@ -62,13 +68,7 @@ fn make_ring(alloc: Global, root: &mut Slot, capacity: u32, laps: u64, passes: u
     if root.full {
         return IN_USE;
     }
-    match boxed_ring(alloc, capacity, laps, passes) {
-        Ok(held) => {
-            root.put(held);
-            OK
-        }
-        Err(code) => code,
-    }
+    place(root, boxed_ring(alloc, capacity, laps, passes))
 }
 
 /// A new queue's root: an empty queue of this capacity, open and not shut.

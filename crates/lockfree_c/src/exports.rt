@@ -8,7 +8,7 @@ ghost use Rattle.bounded_model.specs.declared.commands.Command.TheVariants.{
   Look,
 };
 ghost use Rattle.lockfree_c.specs.declared.exports.TheConstants.{VERSION};
-ghost use Rattle.lockfree_c.specs.Held.{front_from};
+ghost use Rattle.lockfree_c.specs.Bulk.{front_from};
 ghost use Rattle.lockfree_c.specs.Slots.{
   IsSlot,
   SlotAdded,
@@ -27,11 +27,6 @@ ghost use Rattle.lockfree_c.specs.Slots.{
 };
 
 use crate::answers::{Answer, IN_USE, NO_HANDLE, OK};
-use crate::boxed::{
-    add_by, call_by, count_by, finish_by, fold_by, go_on_by, look_by, number_by, put_by,
-    put_copies_by, put_range_by, split_from, take_by,
-};
-use crate::gauge::gauge_by;
 use crate::slot::Slot;
 use bounded_model::Command;
 use running::aside;
@@ -63,7 +58,7 @@ pub extern "C" fn lockfree_split(alloc: Global, root: &mut Slot, pass: &mut Slot
     if !root.full {
         return NO_HANDLE;
     }
-    match split_from(alloc, root.handle.open_mut()) {
+    match root.handle.open_mut().split_boxed(alloc) {
         Ok(held) => {
             pass.put(held);
             OK
@@ -81,7 +76,7 @@ fn call(pass: &mut Slot, command: Command<u64>, tries: u64) -> Answer
     if !pass.full {
         return Answer::of(NO_HANDLE);
     }
-    call_by(pass.handle.open_mut(), command, tries)
+    pass.handle.open_mut().call(command, tries)
 }
 
 /// Puts a value.
@@ -95,7 +90,7 @@ pub extern "C" fn lockfree_put(pass: &mut Slot, value: u64, tries: u64) -> Answe
         aside();
         return Answer::of(NO_HANDLE);
     }
-    put_by(pass.handle.open_mut(), value, tries)
+    pass.handle.open_mut().put(value, tries)
 }
 
 /// Takes a value.
@@ -109,7 +104,7 @@ pub extern "C" fn lockfree_take(pass: &mut Slot, tries: u64) -> Answer
         aside();
         return Answer::of(NO_HANDLE);
     }
-    take_by(pass.handle.open_mut(), tries)
+    pass.handle.open_mut().take(tries)
 }
 
 /// Closes the container.
@@ -142,7 +137,7 @@ pub extern "C" fn lockfree_look(pass: &mut Slot, tries: u64) -> Answer
     if !pass.full {
         return Answer::of(NO_HANDLE);
     }
-    look_by(pass.handle.open_mut(), tries)
+    pass.handle.open_mut().look(tries)
 }
 
 /// Counts the values of a queue or of a ring.
@@ -155,7 +150,7 @@ pub extern "C" fn lockfree_count(pass: &mut Slot, tries: u64) -> Answer
     if !pass.full {
         return Answer::of(NO_HANDLE);
     }
-    count_by(pass.handle.open_mut(), tries)
+    pass.handle.open_mut().count(tries)
 }
 
 /// Tells whether the container was closed, and how many of its tags were used, or in a ring how
@@ -169,7 +164,7 @@ pub extern "C" fn lockfree_gauge(pass: &mut Slot, tries: u64) -> Answer
     if !pass.full {
         return Answer::of(NO_HANDLE);
     }
-    gauge_by(pass.handle.open_mut(), tries)
+    pass.handle.open_mut().gauge(tries)
 }
 
 /// Folds all values of a stack: one compare-and-swap takes them. The order is from the top down, or
@@ -183,7 +178,7 @@ pub extern "C" fn lockfree_fold(pass: &mut Slot, reversed: bool, tries: u64) -> 
     if !pass.full {
         return Answer::of(NO_HANDLE);
     }
-    fold_by(pass.handle.open_mut(), reversed, tries)
+    pass.handle.open_mut().fold(reversed, tries)
 }
 
 /// Adds a value to the range that a stack's pass collects. The first value begins the range. The
@@ -197,7 +192,7 @@ pub extern "C" fn lockfree_range_add(alloc: Global, pass: &mut Slot, value: u64)
     if !pass.full {
         return NO_HANDLE;
     }
-    add_by(alloc, pass.handle.open_mut(), value)
+    pass.handle.open_mut().add(alloc, value)
 }
 
 /// Puts the values of the range by one compare-and-swap, from the first that was added, as far as
@@ -211,7 +206,7 @@ pub extern "C" fn lockfree_range_put(pass: &mut Slot, tries: u64) -> Answer
     if !pass.full {
         return Answer::of(NO_HANDLE);
     }
-    put_range_by(pass.handle.open_mut(), tries)
+    pass.handle.open_mut().put_range(tries)
 }
 
 /// Puts the values of an array onto a stack by one compare-and-swap, from the first, as far as it
@@ -226,7 +221,7 @@ pub extern "C" fn lockfree_put_range(pass: &mut Slot, values: &[u64], tries: u64
     if !pass.full {
         return Answer::of(NO_HANDLE);
     }
-    put_copies_by(pass.handle.open_mut(), values, tries)
+    pass.handle.open_mut().put_copies(values, tries)
 }
 
 /// Continues the call that returned `BUSY`, or the fold that returned `VALUE`. It continues no put
@@ -240,7 +235,7 @@ pub extern "C" fn lockfree_go_on(pass: &mut Slot, tries: u64) -> Answer
     if !pass.full {
         return Answer::of(NO_HANDLE);
     }
-    go_on_by(pass.handle.open_mut(), tries)
+    pass.handle.open_mut().go_on(tries)
 }
 
 /// The number of the call of this pass that ended last, or 0.
@@ -253,7 +248,7 @@ pub extern "C" fn lockfree_number(pass: &mut Slot) -> Answer
     if !pass.full {
         return Answer::of(NO_HANDLE);
     }
-    number_by(pass.handle.open_mut())
+    pass.handle.open_mut().number()
 }
 
 /// Ends a container if the root is its only handle, and hands out what is left in it, one value an
@@ -267,7 +262,7 @@ pub extern "C" fn lockfree_finish(root: &mut Slot) -> Answer
     if !root.full {
         return Answer::of(NO_HANDLE);
     }
-    finish_by(root.handle.open_mut())
+    root.handle.open_mut().finish()
 }
 
 /// Gives up a root or a pass. The last of a container's handles frees it.

@@ -1,139 +1,302 @@
-//! What lies behind a handle.
-ghost use Rattle.std.specs.Prelude.{◌≡◌};
-ghost use Rattle.lockfree_c.specs.Refusals.{refusal_of};
+//! What lies behind a handle, and the calls on it.
+ghost use Rattle.std.specs.Prelude.{◌≡◌, Ok, Err, IfOk, MatchResult};
+ghost use Rattle.bounded_model.specs.declared.commands.Command.TheVariants.{Look, Put, Take};
+ghost use Rattle.lockfree_c.specs.Bulk.{front_from};
+ghost use Rattle.lockfree_c.specs.Held.{
+  HeldAdded,
+  HeldContinues,
+  HeldCalled,
+  HeldCopied,
+  HeldCounted,
+  HeldFinished,
+  HeldFolded,
+  HeldGauged,
+  HeldNumber,
+  HeldRangePut,
+  HeldSplit,
+  HeldWentOn,
+  IsHeld,
+  refusal_of,
+};
 
-use crate::answers::{OTHER_HANDLE, UNDER_WAY};
+use crate::answers::{Answer, NO_MEMORY, OTHER_HANDLE};
+use crate::calls::{QueueWork, RingWork, StackWork};
 use crate::pass::PassOf;
-use crate::root::RootOf;
-use ms_queue::{GaugeOp, LenOp, Queue};
+use crate::side::Side;
+use bounded_model::Command;
+use ms_queue::Queue;
 use ring_queue::RingQueue;
+use running::aside;
 use std::alloc::Global;
-use std::sync::Arc;
-use treiber_stack::{FoldOp, RangeOp, Stack};
+use std::mem;
+use treiber_stack::Stack;
 
-/// A queue's root, with a share of the queue.
-pub type QueueRoot = RootOf<Queue<u64>, ms_queue::Root<u64>>;
+/// What C holds of a queue.
+pub type QueueSide = Side<
+    Queue<u64>,
+    ms_queue::Root<u64>,
+    ms_queue::Pass<u64>,
+    ms_queue::AnyOp<u64>,
+    QueueWork,
+    ms_queue::Rest<u64>,
+>;
 
-/// A queue's pass, with a share of the queue.
-pub type QueuePass = PassOf<Queue<u64>, ms_queue::Pass<u64>, ms_queue::AnyOp<u64>>;
-
-/// A stack's root, with a share of the stack.
-pub type StackRoot = RootOf<Stack<u64>, treiber_stack::Root<u64>>;
+/// What C holds of a stack.
+pub type StackSide = Side<
+    Stack<u64>,
+    treiber_stack::Root<u64>,
+    treiber_stack::Pass<u64>,
+    treiber_stack::AnyOp<u64>,
+    StackWork,
+    treiber_stack::Rest<u64>,
+>;
 
 /// A stack's pass, with a share of the stack.
-pub type StackPass = PassOf<Stack<u64>, treiber_stack::Pass<u64>, treiber_stack::AnyOp<u64>>;
+pub type StackPass = PassOf<
+    Stack<u64>,
+    treiber_stack::Pass<u64>,
+    treiber_stack::AnyOp<u64>,
+    StackWork,
+>;
 
-/// A ring's root, with a share of the ring.
-pub type RingRoot = RootOf<RingQueue<u64>, ring_queue::Root<u64>>;
+/// What C holds of a ring.
+pub type RingSide = Side<
+    RingQueue<u64>,
+    ring_queue::Root<u64>,
+    ring_queue::Pass<u64>,
+    ring_queue::AnyOp<u64>,
+    RingWork,
+    ring_queue::Rest<u64>,
+>;
 
-/// A ring's pass, with a share of the ring.
-pub type RingPass = PassOf<RingQueue<u64>, ring_queue::Pass<u64>, ring_queue::AnyOp<u64>>;
-
-/// A queue's pass in a count of the values, with a share of the queue. It is a variant of its own,
-/// so that the puts and takes of the pass need not check for it.
-#[derive(Drop)]
-pub struct QueueCount {
-    pub container: Arc<Queue<u64>, Global>,
-    pub op: LenOp<u64>,
-}
-
-/// A queue's pass in a gauge, with a share of the queue. It is a variant of its own as a count is.
-#[derive(Drop)]
-pub struct QueueGauge {
-    pub container: Arc<Queue<u64>, Global>,
-    pub op: GaugeOp<u64>,
-}
-
-/// A ring's pass in a count of the values, with a share of the ring. It is a variant of its own.
-#[derive(Drop)]
-pub struct RingCount {
-    pub container: Arc<RingQueue<u64>, Global>,
-    pub op: ring_queue::LenOp<u64>,
-}
-
-/// A ring's pass in a gauge, with a share of the ring. It is a variant of its own as a count is.
-#[derive(Drop)]
-pub struct RingGauge {
-    pub container: Arc<RingQueue<u64>, Global>,
-    pub op: ring_queue::GaugeOp<u64>,
-}
-
-/// A stack's pass in a fold of all values, with a share of the stack. It is a variant of its own,
-/// so that the puts and takes of the pass need not check for it.
-#[derive(Drop)]
-pub struct StackFold {
-    pub container: Arc<Stack<u64>, Global>,
-    pub op: FoldOp<u64>,
-}
-
-/// A stack's pass that collects the values of a range, each in a place, with a share of the stack.
-/// It makes no call until it puts them.
-#[derive(Drop)]
-pub struct StackRange {
-    pub container: Arc<Stack<u64>, Global>,
-    pub by: treiber_stack::Pass<u64>,
-    pub values: Vec<Option<u64>>,
-}
-
-/// A stack's pass in a put of a range from an array of C's, with a share of the stack. C keeps the
-/// array, and gives it again to continue the put.
-#[derive(Drop)]
-pub struct StackCopy {
-    pub container: Arc<Stack<u64>, Global>,
-    pub op: RangeOp<u64>,
-}
-
-/// A stack's pass in a put of a range, with a share of the stack. A value that is in a cell is not in
-/// its place.
-#[derive(Drop)]
-pub struct StackRangePut {
-    pub container: Arc<Stack<u64>, Global>,
-    pub op: RangeOp<u64>,
-    pub values: Vec<Option<u64>>,
-}
-
+/// Nothing, or a side of one of three containers.
 #[derive(Drop)]
 pub enum Held {
     Nothing,
-    QueueRoot(QueueRoot),
-    QueuePass(QueuePass),
-    QueueCount(QueueCount),
-    QueueGauge(QueueGauge),
-    StackRoot(StackRoot),
-    StackPass(StackPass),
-    StackFold(StackFold),
-    StackRange(StackRange),
-    StackRangePut(StackRangePut),
-    StackCopy(StackCopy),
-    RingRoot(RingRoot),
-    RingPass(RingPass),
-    RingCount(RingCount),
-    RingGauge(RingGauge),
-    /// The values of a queue that was ended that were not handed out yet.
-    QueueRest(ms_queue::Rest<u64>),
-    /// Those of a stack.
-    StackRest(treiber_stack::Rest<u64>),
-    /// Those of a ring.
-    RingRest(ring_queue::Rest<u64>),
+    Queue(QueueSide),
+    Stack(StackSide),
+    Ring(RingSide),
+}
+
+// Lets the pass make its call, whichever its container is. Any other handle gives `OTHER_HANDLE`.
+macro_rules! of_pass {
+    ($held:expr, $pass:ident => $call:expr) => {
+        match $held {
+            Held::Queue(Side::Pass($pass)) => $call,
+            Held::Stack(Side::Pass($pass)) => $call,
+            Held::Ring(Side::Pass($pass)) => $call,
+            _ => {
+                aside();
+                Answer::of(OTHER_HANDLE)
+            }
+        }
+    };
 }
 
 impl Held {
-    /// Why it makes no call, if it is no pass for one. A function of its own, since most calls find
-    /// a pass.
+    /// Why it does not make a call that only some containers have.
     #[cold]
     pub fn refusal(&self) -> u32
         ensures { result ≡ refusal_of self.now }
     {
         match self {
-            Held::QueueCount(_) => UNDER_WAY,
-            Held::QueueGauge(_) => UNDER_WAY,
-            Held::StackFold(_) => UNDER_WAY,
-            Held::StackRange(_) => UNDER_WAY,
-            Held::StackRangePut(_) => UNDER_WAY,
-            Held::StackCopy(_) => UNDER_WAY,
-            Held::RingCount(_) => UNDER_WAY,
-            Held::RingGauge(_) => UNDER_WAY,
+            Held::Queue(Side::Pass(pass)) => pass.stage.refusal(),
+            Held::Stack(Side::Pass(pass)) => pass.stage.refusal(),
+            Held::Ring(Side::Pass(pass)) => pass.stage.refusal(),
             _ => OTHER_HANDLE,
         }
+    }
+
+    /// A pass puts a value.
+    #[inline(always)]
+    pub fn put(&mut self, value: u64, tries: u64) -> Answer
+        requires { IsHeld self.old }
+        ensures of { IsHeld self.new }
+        ensures gives { HeldCalled tries self.old (Put value) self.new result }
+    {
+        of_pass!(self, pass => pass.put(value, tries))
+    }
+
+    /// A pass takes a value.
+    #[inline(always)]
+    pub fn take(&mut self, tries: u64) -> Answer
+        requires { IsHeld self.old }
+        ensures of { IsHeld self.new }
+        ensures gives { HeldCalled tries self.old Take self.new result }
+    {
+        of_pass!(self, pass => pass.take(tries))
+    }
+
+    /// A pass looks.
+    #[inline(always)]
+    pub fn look(&mut self, tries: u64) -> Answer
+        requires { IsHeld self.old }
+        ensures of { IsHeld self.new }
+        ensures gives { HeldCalled tries self.old Look self.new result }
+    {
+        of_pass!(self, pass => pass.look(tries))
+    }
+
+    /// A pass makes any call.
+    pub fn call(&mut self, command: Command<u64>, tries: u64) -> Answer
+        requires { IsHeld self.old }
+        ensures of { IsHeld self.new }
+        ensures gives { HeldCalled tries self.old command self.new result }
+    {
+        of_pass!(self, pass => pass.call(command, tries))
+    }
+
+    /// A pass gauges its container.
+    pub fn gauge(&mut self, tries: u64) -> Answer
+        requires { IsHeld self.old }
+        ensures of { IsHeld self.new }
+        ensures gives { HeldGauged self.old self.new result }
+    {
+        of_pass!(self, pass => pass.gauge(tries))
+    }
+
+    /// A pass continues its call.
+    pub fn go_on(&mut self, tries: u64) -> Answer
+        requires { IsHeld self.old }
+        ensures of { IsHeld self.new }
+        ensures gives { HeldWentOn tries self.old self.new result }
+    {
+        of_pass!(self, pass => pass.go_on(tries))
+    }
+
+    /// The number of the call of this pass that ended last.
+    pub fn number(&self) -> Answer
+        ensures { HeldNumber self.now result }
+    {
+        of_pass!(self, pass => pass.stage.number())
+    }
+
+    /// A queue's or a ring's pass counts the values. Any other handle gives `refusal`.
+    pub fn count(&mut self, tries: u64) -> Answer
+        requires { IsHeld self.old }
+        ensures of { IsHeld self.new }
+        ensures gives { HeldCounted self.old self.new result }
+    {
+        match self {
+            Held::Queue(Side::Pass(pass)) => pass.count(tries),
+            Held::Ring(Side::Pass(pass)) => pass.count(tries),
+            other => Answer::of(other.refusal()),
+        }
+    }
+
+    /// A stack's pass folds all values. Any other handle gives `refusal`.
+    pub fn fold(&mut self, reversed: bool, tries: u64) -> Answer
+        requires { IsHeld self.old }
+        ensures of { IsHeld self.new }
+        ensures gives { HeldFolded self.old (front_from reversed) self.new result }
+    {
+        match self {
+            Held::Stack(Side::Pass(pass)) => pass.fold(reversed, tries),
+            other => Answer::of(other.refusal()),
+        }
+    }
+
+    /// A stack's pass adds a value to its range. Any other handle gives `refusal`.
+    pub fn add(&mut self, alloc: Global, value: u64) -> u32
+        requires { IsHeld self.old }
+        ensures of { IsHeld self.new }
+        ensures gives { HeldAdded self.old value self.new result }
+    {
+        match self {
+            Held::Stack(Side::Pass(pass)) => pass.add(alloc, value),
+            other => other.refusal(),
+        }
+    }
+
+    /// A stack's pass puts the range that it has collected. Any other handle gives `refusal`.
+    pub fn put_range(&mut self, tries: u64) -> Answer
+        requires { IsHeld self.old }
+        ensures of { IsHeld self.new }
+        ensures gives { HeldRangePut self.old self.new result }
+    {
+        match self {
+            Held::Stack(Side::Pass(pass)) => pass.put_range(tries),
+            other => Answer::of(other.refusal()),
+        }
+    }
+
+    /// A stack's pass puts these values as a range, or continues their put. Any other handle gives
+    /// `refusal`.
+    pub fn put_copies(&mut self, values: &[u64], tries: u64) -> Answer
+        requires held { IsHeld self.old }
+        requires same { HeldContinues self.old values.now }
+        ensures of { IsHeld self.new }
+        ensures gives { HeldCopied self.old values.now self.new result }
+    {
+        match self {
+            Held::Stack(Side::Pass(pass)) => pass.put_copies(values, tries),
+            other => Answer::of(other.refusal()),
+        }
+    }
+
+    // A root gives a pass. Any other handle gives `OTHER_HANDLE`.
+    fn split(&mut self) -> Result<Held, u32>
+        requires { IsHeld self.old }
+        ensures root { IsHeld self.new }
+        ensures pass { IfOk result (λ p. IsHeld p) }
+        ensures gives { HeldSplit self.old self.new result }
+    {
+        match self {
+            Held::Nothing => Err(OTHER_HANDLE),
+            Held::Queue(side) => Ok(Held::Queue(side.split()?)),
+            Held::Stack(side) => Ok(Held::Stack(side.split()?)),
+            Held::Ring(side) => Ok(Held::Ring(side.split()?)),
+        }
+    }
+
+    /// A root gives a pass, in a box of its own. Any other handle gives `OTHER_HANDLE`.
+    pub fn split_boxed(&mut self, alloc: Global) -> Result<Box<Held, Global>, u32>
+        requires { IsHeld self.old }
+        ensures root { IsHeld self.new }
+        ensures gives { MatchResult result
+            (λ b. HeldSplit self.old self.new (Ok b.value) × IsHeld b.value)
+            (λ code. HeldSplit self.old self.new (Err code)) }
+    {
+        let Ok(room) = Box::new(alloc, Held::Nothing) else {
+            return Err(NO_MEMORY);
+        };
+        let mut room = room;
+        Box::replace(&mut room, self.split()?);
+        Ok(room)
+    }
+
+    // The same as `finish`, of a handle that is given up.
+    fn finish_with(self) -> (Held, Answer)
+        requires { IsHeld self }
+        ensures of { IsHeld result.0 }
+        ensures gives { HeldFinished self result.0 result.1 }
+    {
+        match self {
+            Held::Nothing => (Held::Nothing, Answer::of(OTHER_HANDLE)),
+            Held::Queue(side) => {
+                let (side, answer) = side.finish();
+                (Held::Queue(side), answer)
+            }
+            Held::Stack(side) => {
+                let (side, answer) = side.finish();
+                (Held::Stack(side), answer)
+            }
+            Held::Ring(side) => {
+                let (side, answer) = side.finish();
+                (Held::Ring(side), answer)
+            }
+        }
+    }
+
+    /// A root ends its container, or what is left of an ended one hands out its next value. Any
+    /// other handle gives `OTHER_HANDLE`.
+    pub fn finish(&mut self) -> Answer
+        requires { IsHeld self.old }
+        ensures of { IsHeld self.new }
+        ensures gives { HeldFinished self.old self.new result }
+    {
+        let (next, answer) = mem::replace(self, Held::Nothing).finish_with();
+        *self = next;
+        answer
     }
 }

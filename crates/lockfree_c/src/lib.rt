@@ -9,22 +9,19 @@
 #![tactic(auto)]
 
 mod answers;
-mod boxed;
-mod copying;
-mod count;
+mod bulk;
+mod calls;
 mod creating;
 mod crossing;
 mod exports;
-mod fold;
-mod gauge;
 mod handle;
 mod held;
 mod making;
 mod parts;
 mod pass;
-mod range;
-mod ring;
 mod root;
+mod side;
 mod slot;
 mod stage;
 mod steps;
+mod work;

@@ -1,28 +1,21 @@
 //! New containers, each with its root.
-ghost use Rattle.std.specs.Prelude.{◌≡◌, ℕ, MatchResult};
+ghost use Rattle.std.specs.Prelude.{◌≡◌, MatchResult};
 ghost use Rattle.bounded_model.specs.Laws.{fresh};
-ghost use Rattle.queue_machine.specs.Answers as queue_machine;
-ghost use Rattle.stack_machine.specs.Answers as stack_machine;
-ghost use Rattle.running.specs.Kept.{root_in};
-ghost use Rattle.ring_queue.specs.Ring as ring;
-ghost use Rattle.ring_table.specs.Core.{shape_for};
-ghost use Rattle.ms_queue.specs.Queue as queue;
-ghost use Rattle.treiber_stack.specs.Stack as stack;
 ghost use Rattle.lockfree_c.specs.Held.{
   AreLimits,
   AreRingLimits,
   IsNewQueue,
   IsNewRing,
   IsNewStack,
-  IsQueueRoot,
-  IsRingRoot,
-  IsStackRoot,
   NewRefused,
 };
+ghost use Rattle.lockfree_c.specs.Roots.{IsNewRoot, IsRoot};
 
 use crate::answers::{BAD_CAPACITY, NO_MEMORY};
-use crate::held::{Held, QueueRoot, RingRoot, StackRoot};
+use crate::calls::BoundedCalls;
+use crate::held::Held;
 use crate::root::RootOf;
+use crate::side::Side;
 use ms_queue::Queue;
 use ring_queue::{RingLimits, RingQueue};
 use std::alloc::Global;
@@ -30,59 +23,29 @@ use std::sync::Arc;
 use tagged_index::Limits;
 use treiber_stack::Stack;
 
-// A new queue's root, or why there is none.
-fn new_queue(alloc: Global, capacity: u32, tag_limit: u64) -> Result<QueueRoot, u32>
+// A new container's root, with a share of the container.
+fn rooted<C: BoundedCalls>(
+    alloc: Global,
+    container: C,
+    root: C::Root,
+) -> Result<RootOf<C, C::Root>, u32>
+    requires new { (C.reading container).is_root root × ((C.reading container).root root ≡ fresh) }
     ensures { MatchResult result
-        (λ r. IsQueueRoot r × (root_in r.root ≡ fresh)
-        × (queue.shape_of r.container.value ≡ queue_machine.shape capacity tag_limit))
-        (λ code. NewRefused (AreLimits capacity tag_limit) code) }
+        (λ r. IsNewRoot C.reading (C.reading container).shape r)
+        (λ code. code ≡ NO_MEMORY) }
 {
-    let Some(limits) = Limits::of(capacity, tag_limit) else {
-        return Err(BAD_CAPACITY);
-    };
-    let Ok((queue, root)) = Queue::new(alloc, limits) else {
-        return Err(NO_MEMORY);
-    };
-    match Arc::new(alloc, queue) {
+    match Arc::new(alloc, container) {
         Ok(container) => Ok(RootOf { container, root }),
         Err(_) => Err(NO_MEMORY),
     }
 }
 
-// A new stack's root, or why there is none.
-fn new_stack(alloc: Global, capacity: u32, tag_limit: u64) -> Result<StackRoot, u32>
-    ensures { MatchResult result
-        (λ r. IsStackRoot r × (root_in r.root ≡ fresh)
-        × (stack.shape_of r.container.value ≡ stack_machine.shape capacity tag_limit))
-        (λ code. NewRefused (AreLimits capacity tag_limit) code) }
+// The same in a box.
+fn boxed(alloc: Global, held: Held) -> Result<Box<Held, Global>, u32>
+    ensures { MatchResult result (λ b. b.value ≡ held) (λ code. code ≡ NO_MEMORY) }
 {
-    let Some(limits) = Limits::of(capacity, tag_limit) else {
-        return Err(BAD_CAPACITY);
-    };
-    let Ok((stack, root)) = Stack::new(alloc, limits) else {
-        return Err(NO_MEMORY);
-    };
-    match Arc::new(alloc, stack) {
-        Ok(container) => Ok(RootOf { container, root }),
-        Err(_) => Err(NO_MEMORY),
-    }
-}
-
-// A new ring's root, or why there is none.
-fn new_ring(alloc: Global, capacity: u32, laps: u64, passes: u32) -> Result<RingRoot, u32>
-    ensures { MatchResult result
-        (λ r. IsRingRoot r × (root_in r.root ≡ fresh)
-        × (ring.shape_of r.container.value ≡ shape_for ℕ capacity laps passes))
-        (λ code. NewRefused (AreRingLimits capacity laps passes) code) }
-{
-    let Some(limits) = RingLimits::of(capacity, laps, passes) else {
-        return Err(BAD_CAPACITY);
-    };
-    let Ok((ring, root)) = RingQueue::new(alloc, limits) else {
-        return Err(NO_MEMORY);
-    };
-    match Arc::new(alloc, ring) {
-        Ok(container) => Ok(RootOf { container, root }),
+    match Box::new(alloc, held) {
+        Ok(held) => Ok(held),
         Err(_) => Err(NO_MEMORY),
     }
 }
@@ -92,11 +55,14 @@ pub fn boxed_queue(alloc: Global, capacity: u32, tag_limit: u64) -> Result<Box<H
     ensures { MatchResult result (λ b. IsNewQueue capacity tag_limit b.value)
         (λ code. NewRefused (AreLimits capacity tag_limit) code) }
 {
-    let root = new_queue(alloc, capacity, tag_limit)?;
-    match Box::new(alloc, Held::QueueRoot(root)) {
-        Ok(held) => Ok(held),
-        Err(_) => Err(NO_MEMORY),
-    }
+    let Some(limits) = Limits::of(capacity, tag_limit) else {
+        return Err(BAD_CAPACITY);
+    };
+    let Ok((queue, root)) = Queue::new(alloc, limits) else {
+        return Err(NO_MEMORY);
+    };
+    let root = rooted(alloc, queue, root)?;
+    boxed(alloc, Held::Queue(Side::Root(root)))
 }
 
 /// A new stack's root in a box, or why there is none.
@@ -104,11 +70,14 @@ pub fn boxed_stack(alloc: Global, capacity: u32, tag_limit: u64) -> Result<Box<H
     ensures { MatchResult result (λ b. IsNewStack capacity tag_limit b.value)
         (λ code. NewRefused (AreLimits capacity tag_limit) code) }
 {
-    let root = new_stack(alloc, capacity, tag_limit)?;
-    match Box::new(alloc, Held::StackRoot(root)) {
-        Ok(held) => Ok(held),
-        Err(_) => Err(NO_MEMORY),
-    }
+    let Some(limits) = Limits::of(capacity, tag_limit) else {
+        return Err(BAD_CAPACITY);
+    };
+    let Ok((stack, root)) = Stack::new(alloc, limits) else {
+        return Err(NO_MEMORY);
+    };
+    let root = rooted(alloc, stack, root)?;
+    boxed(alloc, Held::Stack(Side::Root(root)))
 }
 
 /// A new ring's root in a box, or why there is none.
@@ -121,9 +90,12 @@ pub fn boxed_ring(
     ensures { MatchResult result (λ b. IsNewRing capacity laps passes b.value)
         (λ code. NewRefused (AreRingLimits capacity laps passes) code) }
 {
-    let root = new_ring(alloc, capacity, laps, passes)?;
-    match Box::new(alloc, Held::RingRoot(root)) {
-        Ok(held) => Ok(held),
-        Err(_) => Err(NO_MEMORY),
-    }
+    let Some(limits) = RingLimits::of(capacity, laps, passes) else {
+        return Err(BAD_CAPACITY);
+    };
+    let Ok((ring, root)) = RingQueue::new(alloc, limits) else {
+        return Err(NO_MEMORY);
+    };
+    let root = rooted(alloc, ring, root)?;
+    boxed(alloc, Held::Ring(Side::Root(root)))
 }

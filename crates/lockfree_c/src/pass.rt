@@ -1,24 +1,28 @@
 //! A pass of any container, with a share of it.
+ghost use Rattle.std.specs.Prelude.{◌≡◌, None};
 ghost use Rattle.bounded_model.specs.declared.commands.Command.TheVariants.{Look, Put, Take};
-ghost use Rattle.bounded_calls.specs.Calls.{steps_of};
-ghost use Rattle.lockfree_c.specs.Shares.{IsPass, PassCalled, PassWentOn};
+ghost use Rattle.lockfree_c.specs.Calls.{IsWorked, MakesSome, steps_of};
+ghost use Rattle.lockfree_c.specs.Passes.{IsPass, PassBegan, PassCalled, PassTried, PassWentOn};
+ghost use Rattle.lockfree_c.specs.declared.work.UnderWay.TheVariants.{Nothing};
 
 use crate::answers::{Answer, NO_CALL, UNDER_WAY};
+use crate::calls::{BoundedCalls, Counts};
 use crate::stage::Stage;
-use bounded_calls::BoundedCalls;
+use crate::work::UnderWay;
 use bounded_model::{Command, Stepped};
 use running::aside;
 use std::alloc::Global;
+use std::mem;
 use std::sync::Arc;
 
 /// A container's pass, with a share of the container. So the pass is used with no other container.
 #[derive(Drop)]
-pub struct PassOf<C, P, O> {
+pub struct PassOf<C, P, O, W> {
     pub container: Arc<C, Global>,
-    pub stage: Stage<P, O>,
+    pub stage: Stage<P, O, W>,
 }
 
-impl<C: BoundedCalls<u64>> PassOf<C, C::Pass, C::Operation> {
+impl<C: BoundedCalls> PassOf<C, C::Pass, C::Operation, C::Work> {
     /// Puts a value. If the pass is in a call already, nothing changes, and the code is
     /// `UNDER_WAY`.
     #[inline(always)]
@@ -33,7 +37,7 @@ impl<C: BoundedCalls<u64>> PassOf<C, C::Pass, C::Operation> {
                 Stepped::Done(by, said) => self.stage.rest(by, said),
                 Stepped::Again(operation) => {
                     aside();
-                    self.stage.under_way = Some(operation);
+                    mem::forget(mem::replace(&mut self.stage.under_way, UnderWay::Call(operation)));
                     self.go_on(tries)
                 }
             },
@@ -58,7 +62,7 @@ impl<C: BoundedCalls<u64>> PassOf<C, C::Pass, C::Operation> {
                 Stepped::Done(by, said) => self.stage.rest(by, said),
                 Stepped::Again(operation) => {
                     aside();
-                    self.stage.under_way = Some(operation);
+                    mem::forget(mem::replace(&mut self.stage.under_way, UnderWay::Call(operation)));
                     self.go_on(tries)
                 }
             },
@@ -81,7 +85,7 @@ impl<C: BoundedCalls<u64>> PassOf<C, C::Pass, C::Operation> {
             Some(by) => match self.container.look_at_once(by) {
                 Stepped::Done(by, said) => self.stage.rest(by, said),
                 Stepped::Again(operation) => {
-                    self.stage.under_way = Some(operation);
+                    self.stage.under_way = UnderWay::Call(operation);
                     self.go_on(tries)
                 }
             },
@@ -99,16 +103,45 @@ impl<C: BoundedCalls<u64>> PassOf<C, C::Pass, C::Operation> {
     {
         match self.stage.resting.take() {
             Some(by) => {
-                self.stage.under_way = Some(self.container.begin(by, command));
-                self.go_on(tries)
+                let operation = self.container.begin(by, command);
+                self.try_on(operation, tries)
             }
             None => Answer::of(UNDER_WAY),
         }
     }
 
-    /// Continues the call that the pass is in. If it is in none, the code is `NO_CALL`. A function
-    /// of its own, so that a put and a take on their fast path have no locals for it and need not
-    /// clear them.
+    // Continues a call of this pass.
+    fn try_on(&mut self, operation: C::Operation, tries: u64) -> Answer
+        requires free { (self.old.stage.resting ≡ None) × (self.old.stage.under_way ≡ Nothing) }
+        requires made { MakesSome (C.reading self.old.container.value) operation }
+        ensures of { IsPass C.reading self.new }
+        ensures gives { PassTried C.reading (steps_of C.UNDISTURBED C.TO_EXCHANGE tries)
+            self.old operation self.new result }
+    {
+        let made = self.container.try_on(operation, tries);
+        self.stage.leave(made)
+    }
+
+    /// Gauges the container. If the pass is in a call already, nothing changes, and the code is
+    /// `UNDER_WAY`.
+    pub fn gauge(&mut self, tries: u64) -> Answer
+        requires { IsPass C.reading self.old }
+        ensures of { IsPass C.reading self.new }
+        ensures gives { PassBegan C.reading (C.gauges self.old.container.value)
+            self.old self.new result }
+    {
+        match self.stage.resting.take() {
+            Some(by) => {
+                let made = self.container.gauge_for(by, tries);
+                self.stage.settle(made)
+            }
+            None => Answer::of(UNDER_WAY),
+        }
+    }
+
+    /// Continues what the pass has under way. If it has nothing under way, the code is `NO_CALL`. A
+    /// function of its own, which finds the call in its place, so that a call on its fast path has
+    /// no locals for it and need not clear them.
     #[inline(never)]
     pub fn go_on(&mut self, tries: u64) -> Answer
         requires { IsPass C.reading self.old }
@@ -116,12 +149,32 @@ impl<C: BoundedCalls<u64>> PassOf<C, C::Pass, C::Operation> {
         ensures gives { PassWentOn C.reading (steps_of C.UNDISTURBED C.TO_EXCHANGE tries)
             self.old self.new result }
     {
-        match self.stage.under_way.take() {
-            Some(operation) => {
-                let made = self.container.try_on(operation, tries);
-                self.stage.leave(made)
+        match mem::replace(&mut self.stage.under_way, UnderWay::Nothing) {
+            UnderWay::Nothing => Answer::of(NO_CALL),
+            UnderWay::Call(operation) => self.try_on(operation, tries),
+            UnderWay::Work(work) => {
+                let made = self.container.work_on(work, tries);
+                self.stage.settle(made)
             }
-            None => Answer::of(NO_CALL),
+        }
+    }
+}
+
+impl<C: Counts> PassOf<C, C::Pass, C::Operation, C::Work> {
+    /// Counts the values. If the pass is in a call already, nothing changes, and the code is
+    /// `UNDER_WAY`.
+    pub fn count(&mut self, tries: u64) -> Answer
+        requires { IsPass C.reading self.old }
+        ensures of { IsPass C.reading self.new }
+        ensures gives { PassBegan C.reading (C.counts self.old.container.value)
+            self.old self.new result }
+    {
+        match self.stage.resting.take() {
+            Some(by) => {
+                let made = self.container.count_for(by, tries);
+                self.stage.settle(made)
+            }
+            None => Answer::of(UNDER_WAY),
         }
     }
 }

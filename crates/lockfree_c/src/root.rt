@@ -1,12 +1,12 @@
 //! A root of any container, with a share of it. It gives passes, and ends the container. The end
 //! hands out the values that are left, one an answer.
 ghost use Rattle.std.specs.Prelude.{◌≡◌, MatchResult};
-ghost use Rattle.lockfree_c.specs.Shares.{HandsOut, IsEnded, IsSplit};
+ghost use Rattle.lockfree_c.specs.Roots.{HandsOut, IsEnded, IsRoot, IsSplit};
 
 use crate::answers::{Answer, EMPTY, NO_MEMORY, NO_PASS, VALUE};
+use crate::calls::BoundedCalls;
 use crate::pass::PassOf;
 use crate::stage::Stage;
-use bounded_calls::BoundedCalls;
 use bounded_model::Leaving;
 use std::alloc::Global;
 use std::sync::Arc;
@@ -28,42 +28,32 @@ pub fn hand_out<R: Leaving<u64>>(rest: &mut R) -> Answer
     }
 }
 
-impl<C: BoundedCalls<u64>> RootOf<C, C::Root> {
+impl<C: BoundedCalls> RootOf<C, C::Root> {
     /// A pass with a share of the container. The code is `NO_MEMORY` if there is no memory for the
     /// share, and `NO_PASS` if the largest number of passes is out.
-    pub fn split(
-        self,
-    ) -> (
-        RootOf<C, C::Root>,
-        Result<PassOf<C, C::Pass, C::Operation>, u32>,
-    )
-        requires { C.is_root self.container.value self.root }
-        ensures root { C.is_root result.0.container.value result.0.root }
-        ensures gives { IsSplit C.reading C.root self result.0 result.1 }
+    pub fn split(&mut self) -> Result<PassOf<C, C::Pass, C::Operation, C::Work>, u32>
+        requires { IsRoot C.reading self.old }
+        ensures root { IsRoot C.reading self.new }
+        ensures gives { IsSplit C.reading self.old self.new result }
     {
-        let RootOf { container, root } = self;
-        let mut root = root;
-        let Ok(shared) = Arc::try_clone(&container) else {
-            return (RootOf { container, root }, Err(NO_MEMORY));
+        let Ok(container) = Arc::try_clone(&self.container) else {
+            return Err(NO_MEMORY);
         };
-        match container.split_off(&mut root) {
-            Some(by) => {
-                let pass = PassOf {
-                    container: shared,
-                    stage: Stage::of(by, 0),
-                };
-                (RootOf { container, root }, Ok(pass))
-            }
-            None => (RootOf { container, root }, Err(NO_PASS)),
+        match self.container.split_off(&mut self.root) {
+            Some(by) => Ok(PassOf {
+                container,
+                stage: Stage::of(by, 0),
+            }),
+            None => Err(NO_PASS),
         }
     }
 
     /// Ends the container, and hands out the first value that is left. If another handle of it is
     /// out, the call gives the root back.
     pub fn finish(self) -> Result<(C::Rest, Answer), RootOf<C, C::Root>>
-        requires { C.is_root self.container.value self.root }
+        requires { IsRoot C.reading self }
         ensures { MatchResult result
-            (λ t. IsEnded C.reading C.root self (C.Rest.left t.0) t.1)
+            (λ t. IsEnded C.reading self (C.Rest.left t.0) t.1)
             (λ r. r ≡ self) }
     {
         let RootOf { container, root } = self;

@@ -1,11 +1,13 @@
-//! The steps of a number of tries, for each operation that `bounded_calls` does not run.
+//! The steps of a number of tries.
+ghost use Rattle.std.specs.Prelude.{◌≡◌};
+ghost use Rattle.lockfree_c.specs.Calls.{steps_of};
 
 /// The two numbers of an operation.
 pub(crate) struct Steps {
     /// As many steps as it makes from its begin to its end, if no other pass disturbs it.
-    undisturbed: u64,
+    pub(crate) undisturbed: u64,
     /// How many steps lead to its next chance to end, once another pass has taken one.
-    again: u64,
+    pub(crate) again: u64,
 }
 
 /// A queue's count has four loads. It makes them again after a look that found a value taken.
@@ -43,7 +45,9 @@ pub(crate) const RING_GAUGE: Steps = Steps {
 
 /// How many steps this number of tries allows.
 #[inline]
-pub(crate) fn steps_for(of: Steps, tries: u64) -> u64 {
+pub(crate) fn steps_for(of: Steps, tries: u64) -> u64
+    ensures { result ≡ steps_of of.undisturbed of.again tries }
+{
     let Steps { undisturbed, again } = of;
     tries.saturating_mul(again).saturating_add(undisturbed)
 }

@@ -8,7 +8,7 @@ use bounded_model::{Container, Folded, TakeRefused};
 use std::process::Abort;
 use std::sync::Wait;
 use tagged_index::{Limits, MAX_TAG};
-use treiber_stack::{FoldMade, FoldOp, Pass, Stack, begin_fold, begin_fold_reversed, run_fold_for};
+use treiber_stack::{FoldMade, FoldOp, Pass, Stack};
 
 /// More parts than a fold here has.
 const MOST_PARTS: u64 = 20;
@@ -38,7 +38,7 @@ fn fold_in_parts<R: Abort + AllocGlobal>(
     let mut values = Vec::new(rt.alloc());
     let mut used_up: u64 = 0;
     for _ in 0..MOST_PARTS {
-        match run_fold_for(stack, fold, 1) {
+        match stack.run_fold_for(fold, 1) {
             FoldMade::Again(next) => {
                 used_up = used_up.saturating_add(1);
                 fold = next;
@@ -61,7 +61,7 @@ fn a_fold_in_parts_hands_out_all_or_is_refused(rt: HostRuntime) {
     let (stack, mut root) = Stack::<char>::new(rt.alloc(), limits).expect(&rt, "memory");
     let pass = stack.split(&mut root).expect(&rt, "a pass");
     let pass = put_three(&rt, &stack, pass);
-    let (pass, answer, values, used_up) = fold_in_parts(&rt, &stack, begin_fold(&stack, pass));
+    let (pass, answer, values, used_up) = fold_in_parts(&rt, &stack, stack.begin_fold(pass));
     let down = Folded {
         number: 3,
         count: 3,
@@ -69,7 +69,7 @@ fn a_fold_in_parts_hands_out_all_or_is_refused(rt: HostRuntime) {
     assert_eq!(rt; (answer, used_up), (Ok(down), 4));
     assert_eq!(rt; values.as_slice(), ['c', 'b', 'a'].as_slice());
     let pass = put_three(&rt, &stack, pass);
-    let begun = begin_fold_reversed(&stack, pass);
+    let begun = stack.begin_fold_reversed(pass);
     let (pass, answer, values, used_up) = fold_in_parts(&rt, &stack, begun);
     let up = Folded {
         number: 7,
@@ -77,7 +77,7 @@ fn a_fold_in_parts_hands_out_all_or_is_refused(rt: HostRuntime) {
     };
     assert_eq!(rt; (answer, used_up), (Ok(up), 10));
     assert_eq!(rt; values.as_slice(), ['a', 'b', 'c'].as_slice());
-    let (_, answer, values, used_up) = fold_in_parts(&rt, &stack, begin_fold(&stack, pass));
+    let (_, answer, values, used_up) = fold_in_parts(&rt, &stack, stack.begin_fold(pass));
     assert_eq!(rt; (answer, used_up), (Err(TakeRefused::Empty), 0));
     assert!(rt; values.is_empty());
 }
@@ -90,7 +90,7 @@ fn a_fold_leaves_what_is_put_after_it_took_all(rt: HostRuntime) {
     let pass = stack.split(&mut root).expect(&rt, "a pass");
     let other = stack.split(&mut root).expect(&rt, "a pass");
     let pass = put_three(&rt, &stack, pass);
-    let FoldMade::Again(fold) = run_fold_for(&stack, begin_fold(&stack, pass), 2) else {
+    let FoldMade::Again(fold) = stack.run_fold_for(stack.begin_fold(pass), 2) else {
         panic!(rt; "it has come to a value")
     };
     let (other, put) = stack.put(&rt, other, 'd');

@@ -7,7 +7,7 @@ ghost use Rattle.treiber_stack.specs.Stack.{IsPassOf};
 use bounded_model::{Container, RangeRefused, Ranged, Stepped};
 use std::process::Abort;
 use tagged_index::{Limits, MAX_TAG};
-use treiber_stack::{Pass, Stack, begin_range, run_range_for};
+use treiber_stack::{Pass, Stack};
 
 /// More parts than a range here has.
 const MOST_PARTS: u64 = 20;
@@ -23,12 +23,12 @@ fn put_in_parts<R: Abort>(
     requires values { Every (λ place. IsSome place) values.old }
     ensures { IsPassOf stack.now result.0 }
 {
-    let mut range = match begin_range(stack, by, values) {
+    let mut range = match stack.begin_range(by, values) {
         Stepped::Again(begun) => begun,
         Stepped::Done(pass, answer) => return (pass, answer, 0),
     };
     for before in 0..MOST_PARTS {
-        match run_range_for(stack, range, values, 1) {
+        match stack.run_range_for(range, values, 1) {
             Stepped::Again(next) => range = next,
             Stepped::Done(pass, answer) => return (pass, answer, before + 1),
         }

@@ -30,10 +30,10 @@ use Rattle.treiber_stack.specs.declared.call_parts.giving.Chain.{Chain}
 use Rattle.treiber_stack.specs.declared.bulk.range_steps.Held.{Held}
 use Rattle.treiber_stack.specs.declared.bulk.range_steps.RangeAt.TheVariants.{LoadFree as AtFree, Load as AtTop}
 use Rattle.treiber_stack.specs.Ran.{IsRange}
-use Rattle.treiber_stack.specs.Ranging.{putting, loaded, linking, HasTaken, IsFilling, IsRangeAt}
+use Rattle.treiber_stack.specs.Ranging.{putting, loaded, linking, HasTaken, IsFilling, IsNext, IsRangeAt}
 use Rattle.treiber_stack.specs.Stack.{Stack, room_of, machine_of, begun_of, IsAt, IsSeatOf}
 use Rattle.treiber_stack.proofs.Gives.{moved, ready_step}
-use Rattle.treiber_stack.proofs.Loading.{next_value, loaded_more}
+use Rattle.treiber_stack.proofs.Loading.{next_value, loaded_more, same_some}
 use Rattle.treiber_stack.proofs.RangeSteps.{linking_busy, are_nodes}
 
 -- a chain that is not empty
@@ -86,12 +86,16 @@ module _ {T : Type 0} (c : Stack T) (o : Operation T) (vs : List T) where
       }
 
     -- a node came, and the value moved in
-    module _ (i : ℕ) (h : HasTaken c o p vs held' i) (low : held'.count < length vs) where
-      abbrev pub value : T
-      value = (next_value vs held'.count low).0
+    module _ (i : ℕ) (h : HasTaken c o p vs held' i) (value : T) (is_next : IsNext vs held'.count value) where
+      low : held'.count < length vs
+      low = is_next.0
 
       abbrev after : Putting T
       after = putting vs (i ∷ h.chain)
+
+      -- the values with nodes are one more
+      one_more : take (held'.count + 1) vs ≡ take held'.count vs ++ value ∷ []
+      one_more = let next = next_value vs held'.count low in next.1 ∙ ap (λ (z : T). take held'.count vs ++ z ∷ []) (same_some next.0 value (sym next.3 ∙ is_next.1))
 
       module _ (r : Pass T (Line T)) (table : r.seat.table_id ≡ p.seat.table_id) (me : r.seat.me ≡ (p.seat.me.0, (i, Some value) ∷ rest p.seat.me.1)) where
         slots : (i, Some value) ∷ rest p.seat.me.1 ≡ loaded after
@@ -99,7 +103,7 @@ module _ {T : Type 0} (c : Stack T) (o : Operation T) (vs : List T) where
             let e : held'.count ≡ length h.chain = sym h.has.counted in
             let one : length h.chain + 1 ≡ suc (length h.chain) = omega arith in
             ap (λ (zs : List (ℕ × Slot T)). (i, Some value) ∷ rest zs) h.takes.at.at.has
-            ∙ loaded_more i h.chain (length h.chain) vs value (subst (λ (k : ℕ). take (k + 1) vs ≡ take k vs ++ value ∷ []) e (next_value vs held'.count low).1)
+            ∙ loaded_more i h.chain (length h.chain) vs value (subst (λ (k : ℕ). take (k + 1) vs ≡ take k vs ++ value ∷ []) e one_more)
             ∙ ap (λ (k : ℕ). full (i ∷ h.chain) (reverse (take k vs))) one
 
         filled : IsAt c o r (linking h.chain after) (loaded after) × (begun_of c r ≡ begun_of c p)

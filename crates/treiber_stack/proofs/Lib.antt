@@ -12,7 +12,7 @@ pub mod Turning
 pub mod Loading
 pub mod RangeGives
 pub mod RangeTrying
-pub mod CopySteps
+pub mod RangePlaces
 pub mod RangeTook
 pub mod Filling
 pub mod Restoring

@@ -1,14 +1,22 @@
 -- Places of a range, and nodes with their values.
-use Rattle.std.proofs.Common.{◌≡◌, ℕ, zero, suc, ◌+◌, ◌<◌, List, [], ◌∷◌, ◌++◌, map, get_or, set, length, reverse, take, drop, replicate, refl, sym, ap, ◌∙◌, subst, arith}
-use Rattle.std.proofs.lemmas.List.{reverse-append}
+use Rattle.std.proofs.Common.{◌≡◌, ℕ, zero, suc, ◌+◌, ◌<◌, ◌≤◌, List, [], ◌∷◌, ◌++◌, map, get_or, set, length, reverse, take, drop, replicate, refl, sym, ap, ◌∙◌, subst, length-append, arith}
+use Rattle.std.proofs.lemmas.List.{length-drop, length-replicate, reverse-append}
 use Rattle.std.proofs.lemmas.Bool.{false≢true}
 use Rattle.std.specs.Prelude.{Option as Slot, Some, None, IsSome}
 use Rattle.std.specs.List.{AllByRecursion as Every}
 use Rattle.bounded_model.specs.Bulk.{somes}
 use Rattle.stack_table.specs.Slots.{full}
-use Rattle.treiber_stack.specs.Ranging.{places_from, value_at, IsNext}
+use Rattle.treiber_stack.specs.Ranging.{places_from, value_at}
 
 module _ {T : Type 0} where
+  some_or : T → Slot T → T
+  some_or d None = d
+  some_or d (Some x) = x
+
+  pub same_some : (x y : T) → Some x ≡ Some y → x ≡ y
+  unfolding some_or
+  same_some x y e = ap (some_or x) e
+
   -- the value behind the first k
   next_at : (vs : List T) (k : ℕ) → k < length vs → (v : T) × (take (suc k) vs ≡ take k vs ++ v ∷ []) × (drop k vs ≡ v ∷ drop (suc k) vs) × (value_at vs k ≡ Some v)
   next_at [] k h = absurd (omega arith)
@@ -42,11 +50,11 @@ module _ {T : Type 0} where
   places_here vs k h = ap (λ (us : List T). replicate k None ++ map Some us) (next_value vs k h).2
 
   -- the next place has the next value
-  pub place_next : (vs : List T) (k : ℕ) (d : Slot T) → k < length vs → IsNext vs k (get_or (places_from k vs) k d)
-  place_next vs k d h = (h, ap (λ (ps : List (Slot T)). get_or ps k d) (places_here vs k h) ∙ place_at k d (Some (next_value vs k h).0) (map Some (drop (k + 1) vs)) ∙ sym (next_value vs k h).3)
+  place_next : (vs : List T) (k : ℕ) (d : Slot T) → k < length vs → get_or (places_from k vs) k d ≡ value_at vs k
+  place_next vs k d h = ap (λ (ps : List (Slot T)). get_or ps k d) (places_here vs k h) ∙ place_at k d (Some (next_value vs k h).0) (map Some (drop (k + 1) vs)) ∙ sym (next_value vs k h).3
 
   -- it leaves
-  pub place_left : (vs : List T) (k : ℕ) → k < length vs → set (places_from k vs) k None ≡ places_from (k + 1) vs
+  place_left : (vs : List T) (k : ℕ) → k < length vs → set (places_from k vs) k None ≡ places_from (k + 1) vs
   place_left vs k h =
       let e : suc k ≡ k + 1 = omega arith in
       ap (λ (ps : List (Slot T)). set ps k None) (places_here vs k h) ∙ leave_suc k (Some (next_value vs k h).0) None (map Some (drop (k + 1) vs)) ∙ none_more k (map Some (drop (k + 1) vs))
@@ -57,27 +65,50 @@ module _ {T : Type 0} where
   none_suc zero d ys = refl
   none_suc (suc p) d ys = none_suc p d ys
 
-  pub none_at : (m p : ℕ) → suc p ≡ m → (d : Slot T) (ys : List (Slot T)) → get_or (replicate m None ++ ys) p d ≡ None
+  none_at : (m p : ℕ) → suc p ≡ m → (d : Slot T) (ys : List (Slot T)) → get_or (replicate m None ++ ys) p d ≡ None
   none_at m p e d ys = subst (λ (x : ℕ). get_or (replicate x None ++ ys) p d ≡ None) e (none_suc p d ys)
 
   set_suc : (p : ℕ) (x : Slot T) (ys : List (Slot T)) → set (replicate (suc p) None ++ ys) p x ≡ replicate p None ++ x ∷ ys
   set_suc zero x ys = refl
   set_suc (suc p) x ys = ap (λ (zs : List (Slot T)). None ∷ zs) (set_suc p x ys)
 
-  pub set_at : (m p : ℕ) → suc p ≡ m → (x : Slot T) (ys : List (Slot T)) → set (replicate m None ++ ys) p x ≡ replicate p None ++ x ∷ ys
+  set_at : (m p : ℕ) → suc p ≡ m → (x : Slot T) (ys : List (Slot T)) → set (replicate m None ++ ys) p x ≡ replicate p None ++ x ∷ ys
   set_at m p e x ys = subst (λ (y : ℕ). set (replicate y None ++ ys) p x ≡ replicate p None ++ x ∷ ys) e (set_suc p x ys)
 
   pub length_some : (vs : List T) → length (map Some vs) ≡ length vs
   length_some [] = refl
   length_some (v ∷ vs) = ap suc (length_some vs)
 
-  -- the same in places that so many values have left
-  module _ (vs : List T) (places : List (Slot T)) (k : ℕ) (low : k < length vs) (are : places ≡ places_from k vs) where
-    pub place_here : (d : Slot T) → IsNext vs k (get_or places k d)
-    place_here d = subst (λ (ps : List (Slot T)). IsNext vs k (get_or ps k d)) (sym are) (place_next vs k d low)
+  -- places keep their number
+  pub length_places : (k : ℕ) (vs : List T) → k ≤ length vs → length (places_from k vs) ≡ length vs
+  length_places k vs few =
+      let some : length (map Some (drop k vs)) ≡ length (drop k vs) = length_some (drop k vs) in
+      omega (arith, few, some, length-append (replicate k None) (map Some (drop k vs)), length-replicate {A = Slot T} k None, length-drop k vs)
 
-    pub place_gone : (more : ℕ) → more ≡ k + 1 → (place : Slot T) → place ≡ None → set places k place ≡ places_from more vs
-    place_gone more e place none = (λ t. set (are t) k (none t)) ∙ place_left vs k low ∙ ap (λ (m : ℕ). places_from m vs) (sym e)
+  -- the same in places that so many values have left
+  module _ (vs : List T) (places : List (Slot T)) (k : ℕ) (low : k < length vs) where
+    pub place_here : places ≡ places_from k vs → (d : Slot T) → get_or places k d ≡ value_at vs k
+    place_here are d = ap (λ (ps : List (Slot T)). get_or ps k d) are ∙ place_next vs k d low
+
+    pub place_gone : places ≡ places_from k vs → set places k None ≡ places_from (k + 1) vs
+    place_gone are = ap (λ (ps : List (Slot T)). set ps k None) are ∙ place_left vs k low
+
+    -- and in places to which the last one comes back
+    pub place_empty : places ≡ places_from (k + 1) vs → (d : Slot T) → get_or places k d ≡ None
+    place_empty are d = ap (λ (ps : List (Slot T)). get_or ps k d) are ∙ none_at (k + 1) k (omega arith) d (map Some (drop (k + 1) vs))
+
+    pub place_back : (x : T) → value_at vs k ≡ Some x → places ≡ places_from (k + 1) vs → set places k (Some x) ≡ places_from k vs
+    place_back x is are =
+        ap (λ (ps : List (Slot T)). set ps k (Some x)) are
+        ∙ set_at (k + 1) k (omega arith) (Some x) (map Some (drop (k + 1) vs))
+        ∙ ap (λ (s : Slot T). replicate k None ++ s ∷ map Some (drop (k + 1) vs)) (sym is ∙ (next_value vs k low).3)
+        ∙ sym (places_here vs k low)
+
+  -- a copy is of the next value
+  pub copy_here : (vs : List T) (k : ℕ) (d : T) → k < length vs → value_at vs k ≡ Some (get_or vs k d)
+  copy_here [] k d low = absurd (omega arith)
+  copy_here (v ∷ vs) zero d low = refl
+  copy_here (v ∷ vs) (suc k) d low = copy_here vs k d (omega arith)
 
   -- the values of places that all have one
   pub all_values : (places : List (Slot T)) → Every (λ p. IsSome p) places → (vs : List T) × (places ≡ map Some vs)

@@ -5,12 +5,11 @@ use Rattle.std.specs.Prelude.{Option as Slot, Some, None, Result, Ok, Err}
 use Rattle.bounded_model.specs.declared.answers.PutRefused.{PutRefused}
 use Rattle.bounded_model.specs.declared.answers.PutRefused.TheVariants.{Full as PutFull, Closed as PutClosed, Spent as PutSpent}
 use Rattle.bounded_model.specs.declared.answers.Word.TheVariants.{Free as FreeWord, Top as TopWord}
-use Rattle.bounded_model.specs.declared.bulk.Ranged.{Ranged}
 use Rattle.bounded_model.specs.declared.bulk.RangeRefused.{RangeRefused}
 use Rattle.bounded_model.specs.declared.bulk.RangeRefused.TheVariants.{Nothing, Full, Closed, Spent}
 use Rattle.bounded_model.specs.declared.history.Event.TheVariants.{Put}
 use Rattle.bounded_model.specs.declared.views.PassView.{PassView}
-use Rattle.bounded_model.specs.Bulk.{somes, PutsFront, PutsNone, PutsRange, RangeAnswers}
+use Rattle.bounded_model.specs.Bulk.{PutsFront, PutsNone, PutsRange, RangeAnswers}
 use Rattle.bounded_model.specs.Histories.{own}
 use Rattle.bounded_model.specs.Laws.{BacksOut, RangeGives, gave_back, holds_of}
 use Rattle.bounded_model.specs.Machine.{Shape}
@@ -31,10 +30,11 @@ use Rattle.treiber_stack.specs.declared.bulk.range_steps.RangeEnd.TheVariants.{B
 use Rattle.treiber_stack.specs.declared.call_parts.refusing.Barred.{Barred}
 use Rattle.treiber_stack.specs.declared.call_parts.refusing.Barred.TheVariants.{Closed as BarredClosed, Spent as BarredSpent}
 use Rattle.treiber_stack.specs.Ran.{IsRange, WasRange, WasRun}
-use Rattle.treiber_stack.specs.Ranging.{NotPut, IsOver, IsRefused, places_from, putting}
+use Rattle.treiber_stack.specs.Ranging.{NotPut, IsOver, IsRefused, PutsOf, places_from, putting}
 use Rattle.treiber_stack.specs.Refusing.{barring, barring_range}
-use Rattle.treiber_stack.specs.Stack.{Pass, Stack, machine_of, shape_of, pass_in}
+use Rattle.treiber_stack.specs.Stack.{Stack, IsSeatOf, as_pass, machine_of, shape_of, pass_in}
 use Rattle.treiber_stack.specs.KeepsAnswers.{adds_of}
+use Rattle.treiber_stack.proofs.Filling.{some_in}
 use Rattle.treiber_stack.proofs.Loading.{length_some, somes_taken, drop_some}
 
 module _ {T : Type 0} where
@@ -70,15 +70,15 @@ module _ {T : Type 0} (c : Stack T) (o : Operation T) {v : View T (Line T)} {beg
       record { held = made.nodes; at_most = made.at_most; adds = adds_of c.table.shared.key e (gave_back begun.number made.nodes) (made.is ∙ ap (λ (k : ℕ). gave_back k made.nodes) e.number) }
 
   -- no node could be had, and why nothing could be put
-  pub not_put_spent : (vs : List T) (t : ℕ) → Ended (machine_of c) o v begun (ends (AnswerPut (Err (PutSpent vs FreeWord t)))) → NotPut (shape_of c) begun (length vs) (pass_of v) (Spent FreeWord t)
+  not_put_spent : (vs : List T) (t : ℕ) → Ended (machine_of c) o v begun (ends (AnswerPut (Err (PutSpent vs FreeWord t)))) → NotPut (shape_of c) begun (length vs) (pass_of v) (Spent FreeWord t)
   not_put_spent vs t e = (backs_out (PutSpent vs FreeWord t) e, e.tells)
 
-  pub not_put_barred : (vs : List T) (why : Barred) → Ended (machine_of c) o v begun (ends (AnswerPut (Err (barring why vs)))) → NotPut (shape_of c) begun (length vs) (pass_of v) (barring_range why)
+  not_put_barred : (vs : List T) (why : Barred) → Ended (machine_of c) o v begun (ends (AnswerPut (Err (barring why vs)))) → NotPut (shape_of c) begun (length vs) (pass_of v) (barring_range why)
   not_put_barred vs BarredClosed e = (backs_out (PutClosed vs) e, e.tells)
   not_put_barred vs (BarredSpent t) e = (backs_out (PutSpent vs TopWord t) e, e.tells)
 
   -- no node was free
-  pub not_put_full : (vs : List T) → IsRange o vs → Ended (machine_of c) o v begun (ends (AnswerPut (Err (PutFull vs)))) → NotPut (shape_of c) begun (length vs) (pass_of v) Full
+  not_put_full : (vs : List T) → IsRange o vs → Ended (machine_of c) o v begun (ends (AnswerPut (Err (PutFull vs)))) → NotPut (shape_of c) begun (length vs) (pass_of v) Full
   not_put_full [] is e = absurd is
   not_put_full (x ∷ xs) is e =
       let deeds = subst (λ (k : Call T). Deeds (shape_of c) (pass_of v).number k (ends (AnswerPut (Err (PutFull (x ∷ xs))))) begun.seen (pass_of v).seen) is e.deeds in (
@@ -93,63 +93,68 @@ module _ {T : Type 0} (c : Stack T) (o : Operation T) {v : View T (Line T)} {beg
       )
 
   -- the values that were put
-  pub range_gives : (old new : List (Slot T)) (vs : List T) (chain : List ℕ) (k number : ℕ) → IsRange o vs → old ≡ map Some vs → 0 < k → k ≤ length vs → length chain ≡ k → new ≡ places_from k vs
+  range_gives : (vs : List T) (chain : List ℕ) (k number : ℕ) → IsRange o vs → 0 < k → k ≤ length vs → length chain ≡ k
       → Ended (machine_of c) o v begun (ends (AnswerPut (Ok (number, unplaced (putting vs chain)))))
-      → PutsFront (record { shape = shape_of c; from = begun; to = pass_of v }) old new (record { number = number; count = k })
-  range_gives old new [] chain k number is e some few counted same end = absurd is
-  range_gives old new (x ∷ xs) chain k number is e some few counted same end =
+      → PutsFront (record { shape = shape_of c; from = begun; to = pass_of v }) (map Some vs) (places_from k vs) (record { number = number; count = k })
+  range_gives [] chain k number is some few counted end = absurd is
+  range_gives (x ∷ xs) chain k number is some few counted end =
       let vs : List T = x ∷ xs in
       let deeds = subst (λ (l : Call T). Deeds (shape_of c) (pass_of v).number l (ends (AnswerPut (Ok (number, unplaced (putting vs chain))))) begun.seen (pass_of v).seen) is end.deeds in
       let made = deeds.made in
       let put : made.values ≡ take k vs = front_is made.values vs k few (subst (λ (m : ℕ). made.values ++ drop m vs ≡ vs) counted made.all) in
       record {
         some_value = some;
-        at_most = subst (λ (m : ℕ). k ≤ m) (sym (ap length e ∙ length_some vs)) few;
-        gives = subst (λ (us : List T). RangeGives begun us (pass_of v) number) (put ∙ sym (ap (λ (ps : List (Slot T)). somes (take k ps)) e ∙ somes_taken k vs)) (record {
+        at_most = subst (λ (m : ℕ). k ≤ m) (sym (length_some vs)) few;
+        gives = subst (λ (us : List T). RangeGives begun us (pass_of v) number) (put ∙ sym (somes_taken k vs)) (record {
           number = end.number;
           steps = end.steps;
           between = deeds.between;
           seen = deeds.is;
           own_events = ap (λ (j : ℕ). own j deeds.between) (sym end.number) ∙ made.is ∙ ap (λ (j : ℕ). Put j made.values number ∷ holds_of j (length made.values)) end.number;
         });
-        places = same ∙ ap (λ (ps : List (Slot T)). replicate k None ++ ps) (sym (ap (λ (ps : List (Slot T)). drop k ps) e ∙ drop_some k vs));
+        places = ap (λ (ps : List (Slot T)). replicate k None ++ ps) (sym (drop_some k vs));
         all = ⊎_elim
-            (λ none_left. inl (sym (all_in vs k few (subst (λ (m : ℕ). drop m vs ≡ []) counted none_left)) ∙ sym (ap length e ∙ length_some vs)))
+            (λ none_left. inl (sym (all_in vs k few (subst (λ (m : ℕ). drop m vs ≡ []) counted none_left)) ∙ sym (length_some vs)))
             (λ full. inr full)
             deeds.all;
       }
 
--- a put of a range has answered, and was run as one call
-module _ {T : Type 0} (c : Stack T) (o : Operation T) (begun : PassView T) (p : Pass T) (vs : List T) (is : IsRange o vs) where
-  abbrev RanTo : Result Ranged RangeRefused → Type 0
-  RanTo r = RangeAnswers vs r begun (pass_in p) × WasRange c begun vs r p
-
-  pub was_put : (chain : List ℕ) (k number : ℕ) → length chain ≡ k → Ended (machine_of c) o p.pass.seat.me.0 begun (ends (AnswerPut (Ok (number, unplaced (putting vs chain))))) → RanTo (Ok (record { number = number; count = k }))
-  was_put chain k number counted e = (e.answered, (o, is, subst (λ (j : ℕ). WasRun c o begun p (AnswerPut (Ok (number, drop j vs)))) counted (e.ran refl)))
-
-  pub was_full : Ended (machine_of c) o p.pass.seat.me.0 begun (ends (AnswerPut (Err (PutFull vs)))) → RanTo (Err Full)
-  was_full e = (e.answered, (o, is, e.ran refl))
-
-  pub was_spent : (t : ℕ) → Ended (machine_of c) o p.pass.seat.me.0 begun (ends (AnswerPut (Err (PutSpent vs FreeWord t)))) → RanTo (Err (Spent FreeWord t))
-  was_spent t e = (e.answered, (o, is, e.ran refl))
-
-  pub was_barred : (why : Barred) → Ended (machine_of c) o p.pass.seat.me.0 begun (ends (AnswerPut (Err (barring why vs)))) → RanTo (Err (barring_range why))
-  was_barred BarredClosed e = (e.answered, (o, is, e.ran refl))
-  was_barred (BarredSpent t) e = (e.answered, (o, is, e.ran refl))
-
--- a range whose values go back
-pub is_refused : {T : Type 0} (c : Stack T) (o : Operation T) (v : PassView T) (p : runs.Pass T (Line T)) (vs : List T) (held : Held) (why : Barred) → IsOver c o v p vs held (IsBarred why) → IsRefused c o p vs held why
-is_refused c o v p vs held why over = record { chain = over.chain; has = over.has; some_node = over.ends.0; at = over.ends.1.0 }
-
 -- a refusal of a range that is not empty
-pub none_gives : {T : Type 0} (c : Shape) (v w : PassView T) (old new : List (Slot T)) (vs : List T) (why : RangeRefused) → old ≡ map Some vs → 0 < length vs → new ≡ map Some vs → NotPut c v (length vs) w why
-    → PutsRange (record { shape = c; from = v; to = w }) old new (Err why)
-none_gives c v w old new vs why is h same refusal =
-    let many : length vs ≡ length old = sym (ap length is ∙ length_some vs) in
-    (same ∙ sym is, puts_none why (length old) (subst (λ (k : ℕ). 0 < k) many h) (subst (λ (k : ℕ). NotPut c v k w why) many refusal))
+none_gives : {T : Type 0} (c : Shape) (v w : PassView T) (vs : List T) (why : RangeRefused) → 0 < length vs → NotPut c v (length vs) w why → PutsRange (record { shape = c; from = v; to = w }) (map Some vs) (map Some vs) (Err why)
+none_gives c v w vs why h refusal = (refl, puts_none why (length (map Some vs)) (subst (λ (k : ℕ). 0 < k) (sym (length_some vs)) h) (subst (λ (k : ℕ). NotPut c v k w why) (sym (length_some vs)) refusal))
   where
     puts_none : (why : RangeRefused) (most : ℕ) → 0 < most → NotPut c v most w why → PutsNone (record { shape = c; from = v; to = w }) most why
     puts_none Nothing most some r = absurd r
     puts_none Full most some r = (some, r.0, r.1)
     puts_none Closed most some r = (some, r.0, r.1)
     puts_none (Spent word t) most some r = (some, r.0, r.1)
+
+-- a put of a range has answered, and was run as one call
+module _ {T : Type 0} (c : Stack T) (o : Operation T) (begun : PassView T) (p : runs.Pass T (Line T)) (vs : List T) (is : IsRange o vs) (on : IsSeatOf c p) where
+  abbrev Ends : Result (ℕ × List T) (PutRefused (List T)) → Type 0
+  Ends answer = Ended (machine_of c) o p.seat.me.0 begun (ends (AnswerPut answer))
+
+  pub put_so : (chain : List ℕ) (k number : ℕ) → 0 < k → k ≤ length vs → length chain ≡ k → Ends (Ok (number, unplaced (putting vs chain))) → PutsOf c begun vs (places_from k vs) (as_pass p) (Ok (record { number = number; count = k }))
+  put_so chain k number some few counted e = (
+    record { on = on; keeps = tt },
+    range_gives c o vs chain k number is some few counted e,
+    e.answered,
+    (o, is, subst (λ (j : ℕ). WasRun c o begun (as_pass p) (AnswerPut (Ok (number, drop j vs)))) counted (e.ran refl)),
+  )
+
+  none_so : (why : RangeRefused) → NotPut (shape_of c) begun (length vs) (pass_in (as_pass p)) why → RangeAnswers vs (Err why) begun (pass_in (as_pass p)) → WasRange c begun vs (Err why) (as_pass p) → PutsOf c begun vs (map Some vs) (as_pass p) (Err why)
+  none_so why refusal answers ran = (record { on = on; keeps = tt }, none_gives (shape_of c) begun (pass_in (as_pass p)) vs why (some_in o vs is) refusal, answers, ran)
+
+  pub full_so : Ends (Err (PutFull vs)) → PutsOf c begun vs (map Some vs) (as_pass p) (Err Full)
+  full_so e = none_so Full (not_put_full c o vs is e) e.answered (o, is, e.ran refl)
+
+  pub spent_so : (t : ℕ) → Ends (Err (PutSpent vs FreeWord t)) → PutsOf c begun vs (map Some vs) (as_pass p) (Err (Spent FreeWord t))
+  spent_so t e = none_so (Spent FreeWord t) (not_put_spent c o vs t e) e.answered (o, is, e.ran refl)
+
+  pub barred_so : (why : Barred) → Ends (Err (barring why vs)) → PutsOf c begun vs (map Some vs) (as_pass p) (Err (barring_range why))
+  barred_so BarredClosed e = none_so Closed (not_put_barred c o vs BarredClosed e) e.answered (o, is, e.ran refl)
+  barred_so (BarredSpent t) e = none_so (Spent TopWord t) (not_put_barred c o vs (BarredSpent t) e) e.answered (o, is, e.ran refl)
+
+-- a range whose values go back
+pub is_refused : {T : Type 0} (c : Stack T) (o : Operation T) (v : PassView T) (p : runs.Pass T (Line T)) (vs : List T) (held : Held) (why : Barred) → IsOver c o v p vs held (IsBarred why) → IsRefused c o p vs held why
+is_refused c o v p vs held why over = record { chain = over.chain; has = over.has; some_node = over.ends.0; at = over.ends.1.0 }

@@ -1,8 +1,7 @@
 -- Where the steps of a range lead, by what they have told.
 use Rattle.std.proofs.lemmas.Bool.{false≢true}
-use Rattle.std.proofs.Common.{◌≡◌, ℕ, ◌+◌, ◌-◌, ◌<◌, ◌≤◌, Bool, true, false, List, map, length, replicate, drop, refl, sym, ap, ◌∙◌, subst, length-append, arith}
-use Rattle.std.proofs.lemmas.List.{length-drop, length-replicate}
-use Rattle.std.specs.Prelude.{Option as Slot, Some, None, Err}
+use Rattle.std.proofs.Common.{◌≡◌, ℕ, ◌-◌, ◌<◌, ◌≤◌, Bool, true, false, List, length, refl, sym, ap, ◌∙◌, subst, arith}
+use Rattle.std.specs.Prelude.{Err}
 use Rattle.bounded_model.specs.declared.views.PassView.{PassView}
 use Rattle.machine.proofs.Lists.{none_of}
 use Rattle.stack_machine.specs.declared.lines.Answer.TheVariants.{Put as AnswerPut}
@@ -32,12 +31,11 @@ use Rattle.treiber_stack.specs.declared.call_parts.refusing.Barred.TheVariants a
 use Rattle.treiber_stack.specs.Begun.{put_at, put_begun}
 use Rattle.treiber_stack.specs.Giving.{AreNodes, give_line}
 use Rattle.treiber_stack.specs.Ran.{IsRange}
-use Rattle.treiber_stack.specs.Ranging.{range_account, at_operation, stop_line, StopTold, HasNodes, HasRead, HasTaken, IsFilling, IsOver, IsRangeAt, StopsSo, Told, ToldStop, putting, places_from, range_line, range_slots, refused, takes}
-use Rattle.treiber_stack.specs.RangeTrying.{HasStopped, IsRangeOf, IsRanging, RanOn, gives_back, places_at}
+use Rattle.treiber_stack.specs.Ranging.{range_account, at_operation, stop_line, StopTold, HasNodes, HasRead, HasTaken, IsFilling, IsOver, IsRangeAt, StopsSo, Told, ToldStop, putting, range_line, range_slots, refused, takes}
+use Rattle.treiber_stack.specs.RangeTrying.{HasStopped, IsRangeOf, IsRangeOp, RanOn, gives_back, left_at, left_by}
 use Rattle.treiber_stack.specs.Refusing.{barring}
 use Rattle.treiber_stack.specs.Stack.{Stack, room_of, machine_of, begun_of, IsAt, IsSeatOf}
 use Rattle.treiber_stack.proofs.Filling.{wants_node, wants_top}
-use Rattle.treiber_stack.proofs.Loading.{length_some}
 use Rattle.treiber_stack.proofs.RangeSteps.{are_nodes, begun_at, stopped, takes_node}
 
 -- the nodes were given back
@@ -69,16 +67,6 @@ module _ {T : Type 0} (vs : List T) (chain : List ℕ) where
   put_of c nodes Refuse has read = ap (putting vs) (sym (none_of chain (has.counted ∙ read)))
   put_of c nodes (GiveBack why at) has read = given why at
   put_of c nodes at has read = refl
-
--- a place that a value goes back to is there
-pub place_low : {T : Type 0} (vs : List T) (places : List (Slot T)) (m moved count : ℕ) → places ≡ places_from m vs → m + moved ≡ count → moved < count → count - 1 - moved < length places
-place_low {T} vs places m moved count are all here = omega (arith, ap length are, length-append {A = Slot T} (replicate m None) (map Some (drop m vs)), length-replicate {A = Slot T} m None)
-
--- places keep their number
-pub length_places : {T : Type 0} (k : ℕ) (vs : List T) → k ≤ length vs → length (places_from k vs) ≡ length vs
-length_places {T} k vs few =
-    let some : length (map Some (drop k vs)) ≡ length (drop k vs) = length_some (drop k vs) in
-    omega (arith, few, some, length-append (replicate k None) (map Some (drop k vs)), length-replicate {A = Slot T} k None, length-drop k vs)
 
 module _ {T : Type 0} (c : Stack T) where
   some_room : 0 < room_of c
@@ -122,20 +110,12 @@ module _ {T : Type 0} (c : Stack T) where
       read_on nodes' (GiveBack why g) r tells = let t = told_back (room_of c) nodes.count at why (tells (Over (GaveBack why)) refl) in (back_nodes at t read, λ e. absurd (false≢true e), sym t)
 
 -- where a range goes on that has a node more
-module _ {T : Type 0} (c : Stack T) (o : Operation T) (vs : List T) (is : IsRange o vs) (q : Pass T (Line T)) (nodes : Held) (f : IsFilling c o q vs nodes) (places : List (Slot T)) (are : places ≡ places_from nodes.count vs) where
-  long : length places ≡ length vs
-  long = ap length are ∙ length_places nodes.count vs f.has.few
+module _ {T : Type 0} (c : Stack T) (o : Operation T) (vs : List T) (is : IsRange o vs) (q : Pass T (Line T)) (nodes : Held) (f : IsFilling c o q vs nodes) where
+  pub to_node : nodes.count < length vs → IsRangeOp c vs (record { pass = q; operation = o; at = record { held = nodes; at = LoadFree } })
+  to_node low = record { of = is; at = record { chain = f.chain; has = f.has; is = wants_node c o vs q nodes f low; wants = λ e. low } }
 
-  pub to_node : nodes.count < length places → IsRanging c vs places (record { pass = q; operation = o; at = record { held = nodes; at = LoadFree } })
-  to_node low =
-      let l = long in
-      let next : nodes.count < length vs = omega (arith, l, low) in
-      record { of = is; at = record { chain = f.chain; has = f.has; is = wants_node c o vs q nodes f next; wants = λ e. next }; places_are = are }
-
-  pub to_top : 0 < nodes.count → length places ≤ nodes.count → IsRanging c vs places (record { pass = q; operation = o; at = record { held = nodes; at = Load } })
-  to_top some_node high =
-      let l = long in
-      record { of = is; at = record { chain = f.chain; has = f.has; is = wants_top c o vs q nodes f some_node (omega (arith, l, high)); wants = λ e. absurd (false≢true e) }; places_are = are }
+  pub to_top : 0 < nodes.count → length vs ≤ nodes.count → IsRangeOp c vs (record { pass = q; operation = o; at = record { held = nodes; at = Load } })
+  to_top some_node high = record { of = is; at = record { chain = f.chain; has = f.has; is = wants_top c o vs q nodes f some_node high; wants = λ e. absurd (false≢true e) } }
 
 module _ {T : Type 0} (c : Stack T) (o : Operation T) (p : Pass T (Line T)) (vs : List T) (nodes : Held) (at : RangeAt) where
   -- some steps that are begun at a state
@@ -188,28 +168,17 @@ module _ {T : Type 0} (c : Stack T) (o : Operation T) (p : Pass T (Line T)) (vs 
   took_not_back v i h = (told_on (room_of c) nodes.count at (Took i) h.stops.0 refl).0
 
   -- what it has stopped with
-  module _ (v : PassView T) (places : List (Slot T)) (are : places ≡ places_at (gives_back at) nodes.count vs) where
-    places_now : (b : Bool) → gives_back at ≡ b → places ≡ places_at b nodes.count vs
-    places_now b e = are ∙ ap (λ (x : Bool). places_at x nodes.count vs) e
-
+  module _ (v : PassView T) where
     -- a node
-    pub has_node : (i : ℕ) → HasStopped c o v p vs nodes at (Took i) → HasTaken c o p vs nodes i × (begun_of c p ≡ v) × (nodes.count < length vs) × (places ≡ places_from nodes.count vs)
+    pub has_node : (i : ℕ) → HasStopped c o v p vs nodes at (Took i) → HasTaken c o p vs nodes i × (begun_of c p ≡ v) × (nodes.count < length vs) × (left_at at nodes ≡ nodes.count)
     has_node i h =
         let t = told_on (room_of c) nodes.count at (Took i) h.stops.0 refl in
         let node = takes_node c o v p (putting vs h.chain) i t.1.1 h.stops.1 in
-        (record { chain = h.chain; has = h.has; takes = record { at = node.at; low = node.low; begun_is = refl } }, node.begun_is, h.wants t.1.0, places_now false t.0)
-
-    pub has_place : (i : ℕ) → HasStopped c o v p vs nodes at (Took i) → nodes.count < length places
-    has_place i h =
-        let node = has_node i h in
-        let few = h.has.few in
-        let long : length places ≡ length vs = ap length node.3 ∙ length_places nodes.count vs few in
-        let low = node.2 in
-        omega (arith, long, low)
+        (record { chain = h.chain; has = h.has; takes = record { at = node.at; low = node.low; begun_is = refl } }, node.begun_is, h.wants t.1.0, ap (λ (b : Bool). left_by b nodes.count) t.0)
 
     -- its end
-    pub is_over : (end : RangeEnd) → gave (Over end) ≡ false → HasStopped c o v p vs nodes at (Over end) → IsOver c o v p vs nodes end × (places ≡ places_from nodes.count vs)
-    is_over end e h = let t = told_on (room_of c) nodes.count at (Over end) h.stops.0 e in (record { chain = h.chain; has = h.has; ends = (t.1, h.stops.1) }, places_now false t.0)
+    pub is_over : (end : RangeEnd) → gave (Over end) ≡ false → HasStopped c o v p vs nodes at (Over end) → IsOver c o v p vs nodes end × (left_at at nodes ≡ nodes.count)
+    is_over end e h = let t = told_on (room_of c) nodes.count at (Over end) h.stops.0 e in (record { chain = h.chain; has = h.has; ends = (t.1, h.stops.1) }, ap (λ (b : Bool). left_by b nodes.count) t.0)
 
-    pub is_back : (why : Barred) → HasStopped c o v p vs nodes at (Over (GaveBack why)) → IsSeatOf c p × Ended (machine_of c) o p.seat.me.0 v (ends (AnswerPut (Err (barring why vs)))) × (places ≡ map Some vs)
-    is_back why h = (h.stops.1.0, h.stops.1.1, places_now true (told_back (room_of c) nodes.count at why h.stops.0))
+    pub is_back : (why : Barred) → HasStopped c o v p vs nodes at (Over (GaveBack why)) → IsSeatOf c p × Ended (machine_of c) o p.seat.me.0 v (ends (AnswerPut (Err (barring why vs)))) × (left_at at nodes ≡ 0)
+    is_back why h = (h.stops.1.0, h.stops.1.1, ap (λ (b : Bool). left_by b nodes.count) (told_back (room_of c) nodes.count at why h.stops.0))

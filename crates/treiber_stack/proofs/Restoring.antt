@@ -1,5 +1,5 @@
--- The values of a refused range go back to their places.
-use Rattle.std.proofs.Common.{◌≡◌, ℕ, zero, suc, ◌+◌, ◌<◌, ◌≤◌, List, [], ◌∷◌, ◌++◌, map, length, reverse, take, drop, replicate, set, slice_index, refl, sym, ap, ◌∙◌, subst, append_assoc, append-nil, length-append, arith}
+-- The values of a refused range come out of its nodes.
+use Rattle.std.proofs.Common.{◌≡◌, ℕ, zero, suc, ◌+◌, ◌<◌, ◌≤◌, List, [], ◌∷◌, ◌++◌, length, reverse, take, slice_index, refl, sym, ap, ◌∙◌, subst, append_assoc, append-nil, length-append, arith}
 use Rattle.std.proofs.lemmas.List.{reverse-append}
 use Rattle.std.specs.Prelude.{Option as Slot, Some, None, Err}
 use Rattle.atomic_table.specs.Table.{rest}
@@ -41,11 +41,11 @@ use Rattle.treiber_stack.specs.declared.call_parts.giving.Give.TheVariants.{Load
 use Rattle.treiber_stack.specs.declared.bulk.range_steps.Held.{Held}
 use Rattle.treiber_stack.specs.declared.call_parts.refusing.Barred.{Barred}
 use Rattle.treiber_stack.specs.Giving.{IsGiving}
-use Rattle.treiber_stack.specs.Ranging.{places_from, putting, refused, IsRefused, IsRestoring, ReadsAgain}
+use Rattle.treiber_stack.specs.Ranging.{putting, refused, IsNext, IsRefused, IsRestoring, ReadsAgain}
 use Rattle.treiber_stack.specs.Refusing.{barring}
 use Rattle.treiber_stack.specs.Stack.{Stack, room_of, limit_of, machine_of, shape_of, begun_of, IsAt}
 use Rattle.treiber_stack.proofs.Gives.{moved}
-use Rattle.treiber_stack.proofs.Loading.{next_value, set_at}
+use Rattle.treiber_stack.proofs.Loading.{next_value}
 use Rattle.treiber_stack.proofs.Takes.{same_value}
 
 -- a link of a chain names its next node
@@ -180,13 +180,6 @@ module _ {T : Type 0} (c : Stack T) (o : Operation T) (vs : List T) (nodes : Hel
             let one : k + 1 ≡ suc k = omega arith in
             ap (λ (us : List T). reverse us) (subst (λ (m : ℕ). take m vs ≡ take k vs ++ v ∷ []) one e) ∙ reverse-append (take k vs) (v ∷ [])
 
-    -- a value that is back in its place
-    pub places_back : (m : ℕ) → suc place ≡ m → set (places_from m vs) place (Some value) ≡ places_from place vs
-    places_back m e =
-        let one : place + 1 ≡ m = omega arith in
-        set_at m place e (Some value) (map Some (drop m vs))
-        ∙ ap (λ (us : List T). replicate place None ++ map Some us) (sym ((next_value vs place low_place).2 ∙ ap (λ (x : ℕ). value ∷ drop x vs) one))
-
     pub restore_full : p.seat.me.1 ≡ (index, Some value) ∷ rest p.seat.me.1
     restore_full = slots_are ∙ ap (λ (zs : List (ℕ × Slot T)). (index, Some value) ∷ rest zs) (sym slots_are)
 
@@ -194,8 +187,9 @@ module _ {T : Type 0} (c : Stack T) (o : Operation T) (vs : List T) (nodes : Hel
     restore_low = r.has.low index (let e : times index r.chain ≡ times index (r.done ++ index ∷ more) = ap (times index) (r.parts ∙ ap (λ (xs : List ℕ). r.done ++ xs) left_is) in omega (arith, e, times_append index r.done (index ∷ more), times_here index more))
 
     module _ (q : Pass T (Line T)) (x : T) (table : q.seat.table_id ≡ p.seat.table_id) (has : p.seat.me.1 ≡ (index, Some x) ∷ rest p.seat.me.1) (out : q.seat.me ≡ (p.seat.me.0, rest p.seat.me.1 ++ (index, None) ∷ [])) where
-      pub restored_value : x ≡ value
-      restored_value = same_value p.seat.me.1 (rest p.seat.me.1) (rest p.seat.me.1) index index x value has restore_full
+      -- the value that came out
+      pub came_out : IsNext vs place x
+      came_out = (low_place, (next_value vs place low_place).3 ∙ ap Some (sym (same_value p.seat.me.1 (rest p.seat.me.1) (rest p.seat.me.1) index index x value has restore_full)))
 
       abbrev slots : List (ℕ × Slot T)
       slots = full more (reverse (take (length more) vs)) ++ vacant (r.done ++ index ∷ [])

@@ -1,6 +1,7 @@
--- A range that is put in parts: where it is between them, and what one part of it gives.
+-- A range that is put in parts: where it is between them, and what one part of it gives, whatever its values come from.
 use Rattle.std.specs.Prelude.{◌≡◌, ℕ, ◌+◌, ◌*◌, ◌<◌, ◌≤◌, Bool, true, false, List, map, length, Option as Slot, Some, Result, Ok, Err}
 use Rattle.bounded_model.specs.declared.answers.Stepped.{Stepped}
+use Rattle.bounded_model.specs.declared.answers.Stepped.TheVariants.{Again, Done}
 use Rattle.bounded_model.specs.declared.bulk.Ranged.{Ranged}
 use Rattle.bounded_model.specs.declared.bulk.RangeRefused.{RangeRefused}
 use Rattle.bounded_model.specs.declared.views.PassView.{PassView}
@@ -32,11 +33,23 @@ abbrev pub PutSoMany : RangeAt → ℕ → Result Ranged RangeRefused → Type 0
 PutSoMany at count (Ok r) = (gives_back at ≡ false) × (r.count ≡ count)
 PutSoMany at count (Err why) = Unit {0}
 
+-- how many values a range has put that has ended at this
+abbrev pub put_of : Result Ranged RangeRefused → ℕ
+put_of (Ok r) = r.count
+put_of (Err why) = 0
+
+-- how many of its values have left their source: one for each node, or none once they have gone back
+abbrev pub left_by : Bool → ℕ → ℕ
+left_by false k = k
+left_by true k = 0
+
+abbrev pub left_at : RangeAt → Held → ℕ
+left_at at held = left_by (gives_back at) held.count
+
 module _ {T : Type 0} where
-  -- the places while k values are in nodes, and once all are back
-  abbrev pub places_at : Bool → ℕ → List T → List (Slot T)
-  places_at false k vs = places_from k vs
-  places_at true k vs = map Some vs
+  abbrev pub left_after : Stepped (RangeOp T) (Pass T) (Result Ranged RangeRefused) → ℕ
+  left_after (Again next) = left_at next.at.at next.at.held
+  left_after (Done back answer) = put_of answer
 
   -- What a stop came to, of a range that was at this with these nodes. It has ended, or it continues: on its way to put the values back, or
   -- with one node more after one step at most
@@ -82,19 +95,31 @@ module _ {T : Type 0} (c : Stack T) (o : Operation T) where
   RanOn p vs held at q at' = IsRangeOf q vs held at' × (begun_of c q ≡ begun_of c p) × (gives_back at' ≡ gives_back at)
 
 module _ {T : Type 0} (c : Stack T) where
-  -- a put of these values is under way, and its places are these
-  pub record IsRanging (vs : List T) (places : List (Slot T)) (op : RangeOp T) : Type 0 where
+  -- a put of these values is under way
+  pub record IsRangeOp (vs : List T) (op : RangeOp T) : Type 0 where
     pub of : IsRange op.operation vs
     pub at : IsRangeOf c op.operation op.pass vs op.at.held op.at.at
-    pub places_are : places ≡ places_at (gives_back op.at.at) op.at.held.count vs
 
   -- begun as the pass was v, it is under way, or gave what the whole put gives
+  abbrev pub RangeCame : List T → PassView T → Stepped (RangeOp T) (Pass T) (Result Ranged RangeRefused) → Type 0
+  RangeCame vs v made = MatchStepped made
+      (λ next. IsRangeOp vs next × (begun_of c next.pass ≡ v))
+      (λ back answer. PutsOf c v vs (places_from (put_of answer) vs) back answer)
+
+  -- it was begun, and has made no step
+  abbrev pub RangeStarts : List T → PassView T → Stepped (RangeOp T) (Pass T) (Result Ranged RangeRefused) → Type 0
+  RangeStarts vs v made = RangeCame vs v made × (left_after made ≡ 0) × MatchStepped made (λ next. passes.pass_in next.pass ≡ v) (λ back answer. pass_in back ≡ v)
+
+  -- the same of a put of the values in places, with the places as they are now: the first values have left them
+  pub record IsRanging (vs : List T) (places : List (Slot T)) (op : RangeOp T) : Type 0 where
+    pub put : IsRangeOp vs op
+    pub places_are : places ≡ places_from (left_at op.at.at op.at.held) vs
+
   abbrev pub RangeTried : List T → PassView T → List (Slot T) → Stepped (RangeOp T) (Pass T) (Result Ranged RangeRefused) → Type 0
   RangeTried vs v places made = MatchStepped made
       (λ next. IsRanging vs places next × (begun_of c next.pass ≡ v))
       (λ back answer. PutsOf c v vs places back answer)
 
-  -- a put of the values in these places was begun, and has made no step
   abbrev pub RangeBegun : PassView T → List (Slot T) → Stepped (RangeOp T) (Pass T) (Result Ranged RangeRefused) → Type 0
   RangeBegun v places made = ((vs : List T) × (places ≡ map Some vs) × RangeTried vs v places made)
       × MatchStepped made (λ next. passes.pass_in next.pass ≡ v) (λ back answer. pass_in back ≡ v)

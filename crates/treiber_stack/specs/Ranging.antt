@@ -212,9 +212,9 @@ module _ {T : Type 0} where
   value_at (v ∷ vs) zero = Some v
   value_at (v ∷ vs) (suc k) = value_at vs k
 
-  -- a place has it
-  abbrev pub IsNext : List T → ℕ → Slot T → Type 0
-  IsNext vs k place = (k < length vs) × (place ≡ value_at vs k)
+  -- which is this one
+  abbrev pub IsNext : List T → ℕ → T → Type 0
+  IsNext vs k x = (k < length vs) × (value_at vs k ≡ Some x)
 
   abbrev pub putting : List T → List ℕ → Putting T
   putting vs chain = record { values = vs; chain = chain }
@@ -231,9 +231,9 @@ module _ {T : Type 0} where
     pub has : HasNodes c vs chain held
     pub takes : TakesNode c o (begun_of c p) (putting vs chain) p i
 
-  -- it has the value, whose place is empty; the link to the node before it is a step
-  abbrev pub FillsOne : Stack T → Operation T → runs.Pass T (Line T) → List T → Held → Slot T → runs.Pass T (Line T) → Held → Type 0
-  FillsOne c o p vs held place q more = IsFilling c o q vs more × (more.count ≡ held.count + 1) × (begun_of c q ≡ begun_of c p) × (place ≡ None) × ((passes.pass_in q).steps ≤ (passes.pass_in p).steps + 1)
+  -- it has the value; the link to the node before it is a step
+  abbrev pub FillsOne : Stack T → Operation T → runs.Pass T (Line T) → List T → Held → runs.Pass T (Line T) → Held → Type 0
+  FillsOne c o p vs held q more = IsFilling c o q vs more × (more.count ≡ held.count + 1) × (begun_of c q ≡ begun_of c p) × ((passes.pass_in q).steps ≤ (passes.pass_in p).steps + 1)
 
   -- a range is over, with nodes for the first values
   pub record IsOver (c : Stack T) (o : Operation T) (v : PassView T) (p : runs.Pass T (Line T)) (vs : List T) (held : Held) (end : RangeEnd) : Type 0 where
@@ -252,7 +252,7 @@ module _ {T : Type 0} where
     pub some_node : 0 < held.count
     pub at : IsAt c o p (LoadFreeToGive (refused (putting vs chain) why)) (loaded (putting vs chain))
 
-  -- the values of a refused range go back to their places, the last first
+  -- the values of a refused range come out of its nodes, the last first
   pub record IsRestoring (c : Stack T) (o : Operation T) (p : runs.Pass T (Line T)) (vs : List T) (held : Held) (why : Barred) (moved index : ℕ) : Type 0 where
     pub chain : List ℕ
     pub has : HasNodes c vs chain held
@@ -263,12 +263,11 @@ module _ {T : Type 0} where
     pub next : 0 < length left → first left ≡ index
     pub at : IsAt c o p (LoadFreeToGive (refused (putting vs chain) why)) (full left (reverse (take (length left) vs)) ++ vacant done)
 
-  -- they are all back, and the emptied nodes are to be given back
-  pub record Restores (c : Stack T) (o : Operation T) (p : runs.Pass T (Line T)) (vs : List T) (held : Held) (why : Barred) (places : List (Slot T)) (q : runs.Pass T (Line T)) : Type 0 where
+  -- they are all out, and the emptied nodes are to be given back
+  pub record Restores (c : Stack T) (o : Operation T) (p : runs.Pass T (Line T)) (vs : List T) (held : Held) (why : Barred) (q : runs.Pass T (Line T)) : Type 0 where
     pub chain : List ℕ
     pub has : HasNodes c vs chain held
     pub back : IsGiving c o q (refused (putting vs chain) why) held.chain LoadToGive
-    pub places_are : places ≡ map Some vs
     pub begun : begun_of c q ≡ begun_of c p
 
   -- a link of the chain that is given back next was read

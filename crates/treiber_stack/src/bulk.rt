@@ -1,10 +1,11 @@
 //! A stack's ranges and folds, as `Bulk` has them.
-pub(crate) mod copying;
 pub(crate) mod fold_op;
 pub(crate) mod folding;
+pub(crate) mod loading;
 pub(crate) mod range_steps;
 pub(crate) mod range_trying;
 pub(crate) mod ranging;
+pub(crate) mod source;
 
 use crate::life::stack::{Pass, Stack};
 use bounded_model::{Bulk, Folded, RangeRefused, Ranged, TakeRefused};

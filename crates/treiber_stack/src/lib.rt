@@ -26,9 +26,8 @@ mod rule;
 mod stepwise;
 
 pub use bounded_model::{Folded, RangeRefused, Ranged};
-pub use bulk::copying::{begin_copies, run_copies_for};
-pub use bulk::fold_op::{FoldMade, FoldOp, begin_fold, begin_fold_reversed, run_fold_for};
-pub use bulk::range_trying::{RangeOp, begin_range, run_range_for};
+pub use bulk::fold_op::{FoldMade, FoldOp};
+pub use bulk::range_trying::{RangeMade, RangeOp};
 pub use calls::closing::{CloseOp, ShutOp};
 pub use calls::every::{AnyOp, StackAt};
 pub use calls::gauging::Gauge;

@@ -33,67 +33,69 @@ pub enum FoldMade<T> {
     Done(Pass<T>, Result<Folded, TakeRefused>),
 }
 
-/// A fold from the top down that makes no step yet.
-#[inline]
-pub fn begin_fold<T>(on: &Stack<T>, by: Pass<T>) -> FoldOp<T>
-    requires { IsPassOf on.now by }
-    ensures { IsFolding on.now First [] result
-        × (underway_of (machine_of on.now) result.pass ≡ no_step (pass_in by)) }
-{
-    let Pass { pass, .. } = by;
-    let operation = Operation::Fold(Front::First);
-    Op::begin(on, pass, operation, FoldAt::Load(Front::First))
-}
+impl<T> Stack<T> {
+    /// A fold from the top down that makes no step yet.
+    #[inline]
+    pub fn begin_fold(&self, by: Pass<T>) -> FoldOp<T>
+        requires { IsPassOf self.now by }
+        ensures { IsFolding self.now First [] result
+            × (underway_of (machine_of self.now) result.pass ≡ no_step (pass_in by)) }
+    {
+        let Pass { pass, .. } = by;
+        let operation = Operation::Fold(Front::First);
+        Op::begin(self, pass, operation, FoldAt::Load(Front::First))
+    }
 
-/// A fold from the bottom up that makes no step yet.
-#[inline]
-pub fn begin_fold_reversed<T>(on: &Stack<T>, by: Pass<T>) -> FoldOp<T>
-    requires { IsPassOf on.now by }
-    ensures { IsFolding on.now Last [] result
-        × (underway_of (machine_of on.now) result.pass ≡ no_step (pass_in by)) }
-{
-    let Pass { pass, .. } = by;
-    let operation = Operation::Fold(Front::Last);
-    Op::begin(on, pass, operation, FoldAt::Load(Front::Last))
-}
+    /// A fold from the bottom up that makes no step yet.
+    #[inline]
+    pub fn begin_fold_reversed(&self, by: Pass<T>) -> FoldOp<T>
+        requires { IsPassOf self.now by }
+        ensures { IsFolding self.now Last [] result
+            × (underway_of (machine_of self.now) result.pass ≡ no_step (pass_in by)) }
+    {
+        let Pass { pass, .. } = by;
+        let operation = Operation::Fold(Front::Last);
+        Op::begin(self, pass, operation, FoldAt::Load(Front::Last))
+    }
 
-/// Continues a fold until the next value or the end, for at most `steps` steps. It waits after
-/// each compare-and-swap that failed. One compare-and-swap takes all values, so a value
-/// that is put after it is not among them. `Again` comes after exactly `steps` steps, a value or
-/// the end after at most `steps`. A step is one atomic access.
-#[inline]
-pub fn run_fold_for<T>(on: &Stack<T>, fold: FoldOp<T>, steps: u64) -> FoldMade<T>
-    requires { (front : Front) × (values : List T) × IsFolding on.now front values fold }
-    ensures tried { (front : Front) (values : List T) → IsFolding on.now front values fold
-        → FoldTried on.now front values (begun_of on.now fold.pass) result }
-    ensures took { FoldSteps steps (passes.pass_in fold.pass) result }
-{
-    let Op {
-        pass,
-        operation,
-        at,
-    } = fold;
-    let first = (pass, Next::On(at));
-    match try_for(&on.table.shared, on, first, &operation, steps) {
-        Stepped::Again((pass, at)) => FoldMade::Again(Op {
+    /// Continues a fold until the next value or the end, for at most `steps` steps. It waits after
+    /// each compare-and-swap that failed. One compare-and-swap takes all values, so a value
+    /// that is put after it is not among them. `Again` comes after exactly `steps` steps, a value or
+    /// the end after at most `steps`. A step is one atomic access.
+    #[inline]
+    pub fn run_fold_for(&self, fold: FoldOp<T>, steps: u64) -> FoldMade<T>
+        requires { (front : Front) × (values : List T) × IsFolding self.now front values fold }
+        ensures tried { (front : Front) (values : List T) → IsFolding self.now front values fold
+            → FoldTried self.now front values (begun_of self.now fold.pass) result }
+        ensures took { FoldSteps steps (passes.pass_in fold.pass) result }
+    {
+        let Op {
             pass,
             operation,
             at,
-        }),
-        Stepped::Done(pass, stop) => match stop {
-            FoldStop::Yields(value, at) => {
-                let next = Op {
-                    pass,
-                    operation,
-                    at,
-                };
-                FoldMade::Value(value, next)
-            }
-            FoldStop::Ended(batch, count) => {
-                let number = batch.number;
-                FoldMade::Done(Pass { pass, kept: () }, Ok(Folded { number, count }))
-            }
-            FoldStop::Refused(why) => FoldMade::Done(Pass { pass, kept: () }, Err(why)),
-        },
+        } = fold;
+        let first = (pass, Next::On(at));
+        match try_for(&self.table.shared, self, first, &operation, steps) {
+            Stepped::Again((pass, at)) => FoldMade::Again(Op {
+                pass,
+                operation,
+                at,
+            }),
+            Stepped::Done(pass, stop) => match stop {
+                FoldStop::Yields(value, at) => {
+                    let next = Op {
+                        pass,
+                        operation,
+                        at,
+                    };
+                    FoldMade::Value(value, next)
+                }
+                FoldStop::Ended(batch, count) => {
+                    let number = batch.number;
+                    FoldMade::Done(Pass { pass, kept: () }, Ok(Folded { number, count }))
+                }
+                FoldStop::Refused(why) => FoldMade::Done(Pass { pass, kept: () }, Err(why)),
+            },
+        }
     }
 }

@@ -14,11 +14,10 @@ use crate::rule::Stacked;
 use atomic_table::Seat;
 use bounded_model::Stepped;
 use machine::View;
-use running::{Access, Code, Next, Outcome, to_the_end, try_for};
+use running::{Access, Code, Next, Outcome, try_for};
 use stack_machine::Line;
 use stack_table::Operation;
 use stack_table::layout::{FREE_LIST, STACK_LIST};
-use std::sync::Wait;
 use tagged_index::Tagged;
 
 /// The nodes of a range, each with its value.
@@ -95,27 +94,6 @@ pub(crate) enum RangeEnd {
 pub(crate) struct RangeStopped<T> {
     pub(crate) begun: Begun<T>,
     pub(crate) stop: RangeStop,
-}
-
-/// Makes a range's steps until it stops.
-pub(crate) fn run_range<T, R: Wait>(
-    on: &Stack<T>,
-    rt: &R,
-    by: running::Pass<T, Line<T>>,
-    held: Held,
-    at: RangeAt,
-    operation: &Operation<T>,
-) -> (running::Pass<T, Line<T>>, RangeStop)
-    requires { (vs : List T) × IsRangeOf on.now operation.now by vs held at }
-    ensures { (vs : List T) → IsRangeOf on.now operation.now by vs held at
-        → HasStopped on.now operation.now (begun_of on.now by) result.0 vs held at
-        result.1 }
-{
-    let begun = Begun::of(operation, &by);
-    let first = (by, Next::On(Range { begun, held, at }));
-    let (pass, stopped) = to_the_end(rt, &on.table.shared, on, first, operation);
-    let RangeStopped { begun: _, stop } = stopped;
-    (pass, stop)
 }
 
 /// Makes a range's steps until it stops, or until it has made `steps` steps.

@@ -1,36 +1,39 @@
-//! Ranges that are put in parts of a bounded number of steps, for callers that may not wait. When
-//! the steps are used up, the range comes back as it is, begun as before.
-ghost use Rattle.std.specs.Prelude.{List, IsSome};
-ghost use Rattle.std.specs.List.{AllByRecursion as Every};
-ghost use Rattle.treiber_stack.specs.RangeTrying.{IsRanging, RangeBegun, RangeSteps, RangeTried};
-ghost use Rattle.treiber_stack.specs.Stack.{IsPassOf, pass_in, begun_of};
+//! A range that is put in parts of a bounded number of steps, whatever its values come from. When
+//! the steps are used up, it comes back as it is, begun as before.
+ghost use Rattle.std.specs.Prelude.{◌≡◌, List, [], MatchOption};
+ghost use Rattle.bounded_model.specs.declared.views.PassView.{PassView};
+ghost use Rattle.treiber_stack.specs.Ran.{IsRange};
+ghost use Rattle.treiber_stack.specs.RangeTrying.{HasStopped, IsRangeOp, RangeCame, RangeStarts, RangeSteps, StoppedAt, left_after, left_at};
+ghost use Rattle.treiber_stack.specs.Stack.{IsPassOf, begun_of, pass_in};
+ghost use Rattle.treiber_stack.specs.declared.bulk.range_steps.RangeAt.{RangeAt};
+ghost use Rattle.treiber_stack.specs.declared.bulk.range_steps.RangeStop.TheVariants.{Over};
 
-use crate::bulk::range_steps::{Held, RangeAt, RangeState, try_range};
-use crate::bulk::ranging::{after_stop, name_of};
-use crate::call_parts::giving::Chain;
+use crate::bulk::loading::{load_node, restore};
+use crate::bulk::range_steps::{Held, RangeAt, RangeEnd, RangeState, RangeStop, try_range};
+use crate::bulk::source::Source;
+use crate::call_parts::giving::{Chain, Give};
 use crate::life::stack::{Pass, Stack};
-use bounded_model::{RangeRefused, Ranged, Stepped};
+use bounded_model::{RangeRefused, Ranged, Stepped, Word};
 use running::Op;
 use stack_machine::Line;
 use stack_table::Operation;
 use tagged_index::NULL;
 
-/// A put of a range that was begun. The values that have no node yet are in their places. Its
-/// operation shows proofs the values that are put.
+/// A put of a range that was begun. Values that have no node yet are in their source. Its operation
+/// shows proofs the values that are put.
 pub type RangeOp<T> = Op<T, Line<T>, Operation<T>, RangeState>;
 
-/// A put of the values in these places that makes no step yet. It refuses an empty range at
-/// once, as `Nothing`.
-pub fn begin_range<T>(
-    on: &Stack<T>,
-    by: Pass<T>,
-    values: &[Option<T>],
-) -> Stepped<RangeOp<T>, Pass<T>, Result<Ranged, RangeRefused>>
-    requires pass { IsPassOf on.now by }
-    requires values { Every (λ place. IsSome place) values.now }
-    ensures { RangeBegun on.now (pass_in by) values.now result }
+/// What a range has come to that was begun, or was run for some steps.
+pub type RangeMade<T> = Stepped<RangeOp<T>, Pass<T>, Result<Ranged, RangeRefused>>;
+
+/// A put that makes no step yet. It is refused at once, as `Nothing`, if there is no value to put.
+pub(crate) fn begin<T>(on: &Stack<T>, by: Pass<T>, put: Option<Operation<T>>) -> RangeMade<T>
+    requires { IsPassOf on.now by }
+    ensures { (vs : List T) → MatchOption put (vs ≡ []) (λ o. IsRange o vs)
+        → RangeStarts on.now vs (pass_in by) result }
 {
-    let Some(operation) = name_of(values) else {
+    let _ = on;
+    let Some(operation) = put else {
         return Stepped::Done(by, Err(RangeRefused::Nothing));
     };
     let Pass { pass, .. } = by;
@@ -49,25 +52,25 @@ pub fn begin_range<T>(
     })
 }
 
-/// Continues the put with the places as it left them, and waits after each compare-and-swap
-/// that failed. It makes at most `steps` steps to take each node, `steps` to put them onto the
-/// top and `steps` to give them back. A node that is linked, or whose value goes back, is one
-/// step more. If the range ends, it returns what `put_range` does, and leaves the places so.
-/// The contract does not bound a part in which the range is first refused or turns back. A step is
-/// one atomic access.
-pub fn run_range_for<T>(
+/// Continues the put with the source as it left it, for at most `steps` steps to take each node,
+/// `steps` to put them onto the top and `steps` to give them back.
+pub(crate) fn run_for<T, V: Source<T>>(
     on: &Stack<T>,
     op: RangeOp<T>,
-    values: &mut [Option<T>],
+    values: &mut V,
     steps: u64,
-) -> Stepped<RangeOp<T>, Pass<T>, Result<Ranged, RangeRefused>>
-    requires { (vs : List T) × IsRanging on.now vs values.old op }
-    ensures tried { (vs : List T) → IsRanging on.now vs values.old op
-        → RangeTried on.now vs (begun_of on.now op.pass) values.new result }
+) -> RangeMade<T>
+    requires { (vs : List T) × IsRangeOp on.now vs op
+        × V.left values.old vs (left_at op.at.at op.at.held) }
+    ensures came { (vs : List T) → IsRangeOp on.now vs op
+        → V.left values.old vs (left_at op.at.at op.at.held)
+        → RangeCame on.now vs (begun_of on.now op.pass) result
+        × V.left values.new vs (left_after result) }
     ensures took { RangeSteps steps op result }
+    ensures same { V.borrow values.new ≡ V.borrow values.old }
 {
     let mut range = op;
-    // The range stops with each node, when the values go back to their places, and at its end.
+    // The range stops with each node, when the values go back to their source, and at its end.
     for round in 0..values.len().saturating_add(2) {
         let Op {
             pass,
@@ -92,4 +95,97 @@ pub fn run_range_for<T>(
         }
     }
     Stepped::Again(range)
+}
+
+// Continues a range that has stopped. With a node it moves the next value into its slot. Then it
+// takes a node for the value after it, or goes to the top if all values have one.
+fn after_stop<T, V: Source<T>>(
+    on: &Stack<T>,
+    by: running::Pass<T, Line<T>>,
+    held: Held,
+    stop: RangeStop,
+    values: &mut V,
+    operation: Operation<T>,
+) -> RangeMade<T>
+    requires { (v : PassView T) × (vs : List T) × (at : RangeAt)
+        × HasStopped on.now operation v by vs held at stop × IsRange operation vs
+        × V.left values.old vs (left_at at held) }
+    ensures came { (v : PassView T) (vs : List T) (at : RangeAt)
+        → HasStopped on.now operation v by vs held at stop → IsRange operation vs
+        → V.left values.old vs (left_at at held)
+        → RangeCame on.now vs v result × V.left values.new vs (left_after result) }
+    ensures stopped { (v : PassView T) (vs : List T) (at : RangeAt)
+        → HasStopped on.now operation v by vs held at stop
+        → V.left values.old vs (left_at at held) → StoppedAt at held.count by result }
+    ensures same { V.borrow values.new ≡ V.borrow values.old }
+{
+    let index = match stop {
+        RangeStop::Took(index) => index,
+        RangeStop::Over(end) => return end_range(on, by, held, end, values, operation),
+    };
+    let value = values.take(held.count);
+    let (pass, held) = load_node(on, by, held, index, value, &operation);
+    if (held.count as usize) < values.len() {
+        let at = RangeAt::LoadFree;
+        let at = RangeState { held, at };
+        return Stepped::Again(Op {
+            pass,
+            operation,
+            at,
+        });
+    }
+    let at = RangeAt::Load;
+    let at = RangeState { held, at };
+    Stepped::Again(Op {
+        pass,
+        operation,
+        at,
+    })
+}
+
+// Says what a range that is over has put. If nothing can be put onto the top, the values go back to
+// their source, and then the nodes to the free list.
+fn end_range<T, V: Source<T>>(
+    on: &Stack<T>,
+    by: running::Pass<T, Line<T>>,
+    held: Held,
+    end: RangeEnd,
+    values: &mut V,
+    operation: Operation<T>,
+) -> RangeMade<T>
+    requires { (v : PassView T) × (vs : List T) × (at : RangeAt)
+        × HasStopped on.now operation v by vs held at (Over end) × IsRange operation vs
+        × V.left values.old vs (left_at at held) }
+    ensures came { (v : PassView T) (vs : List T) (at : RangeAt)
+        → HasStopped on.now operation v by vs held at (Over end) → IsRange operation vs
+        → V.left values.old vs (left_at at held)
+        → RangeCame on.now vs v result × V.left values.new vs (left_after result) }
+    ensures stopped { (v : PassView T) (vs : List T) (at : RangeAt)
+        → HasStopped on.now operation v by vs held at (Over end)
+        → StoppedAt at held.count by result }
+    ensures same { V.borrow values.new ≡ V.borrow values.old }
+{
+    match end {
+        RangeEnd::Put(number) => {
+            let count = held.count;
+            Stepped::Done(Pass { pass: by, kept: () }, Ok(Ranged { number, count }))
+        }
+        RangeEnd::Full => Stepped::Done(Pass { pass: by, kept: () }, Err(RangeRefused::Full)),
+        RangeEnd::Refused(why) => Stepped::Done(Pass { pass: by, kept: () }, Err(why.of_range())),
+        RangeEnd::Spent(tag) => Stepped::Done(
+            Pass { pass: by, kept: () },
+            Err(RangeRefused::Spent(Word::Free, tag)),
+        ),
+        RangeEnd::Barred(why) => {
+            let pass = restore(on, by, held, values);
+            let at = RangeAt::GiveBack(why, Give::Load);
+            let at = RangeState { held, at };
+            Stepped::Again(Op {
+                pass,
+                operation,
+                at,
+            })
+        }
+        RangeEnd::GaveBack(why) => Stepped::Done(Pass { pass: by, kept: () }, Err(why.of_range())),
+    }
 }

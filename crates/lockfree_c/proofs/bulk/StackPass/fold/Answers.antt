@@ -1,0 +1,42 @@
+use Rattle.std.proofs.Common.{◌≡◌, ℕ, List, [], ap, refl, sym, subst}
+use Rattle.bounded_model.specs.Stepping.{Underway, no_step}
+use Rattle.index_list.specs.declared.front.Front.{Front}
+use Rattle.running.specs.Ops.{underway_of}
+use Rattle.running.specs.Kept.{pass_in}
+use Rattle.treiber_stack.specs.FoldOp.{IsFolding}
+use Rattle.treiber_stack.specs.Stack.{begun_of, machine_of}
+use Rattle.lockfree_c.specs.Bulk.{front_from}
+use Rattle.lockfree_c.specs.Stacks.{FoldTried, stack_reading}
+use Rattle.lockfree_c.proofs.Shared.{began}
+use Rattle.lockfree_c.proofs.Stays.{settles}
+use Rattle.lockfree_c.proofs.Works.{fold_worked}
+use Rattle.lockfree_c.proofs.bulk.StackPass.fold.Goals as goal
+
+pub fold_on-made-requires : goal.fold_on-made-requires
+fold_on-made-requires c =
+    let front = front_from c.args.reversed in
+    let begun = subst (λ on. IsFolding on front [] c.first-op.result) c.deref.ensures c.first-op.ensures.0 in
+    (front, [], subst (λ on. IsFolding on front [] c.first-op.result) (sym c.deref-in-Some.ensures) begun)
+
+-- what it came to, from what the pass had seen
+tried : (c : goal.After-settle) → FoldTried c.args.self.now.container.value (front_from c.args.reversed) [] (pass_in c.in-Some.by) c.fold_on-made.result
+tried c =
+    let front = front_from c.args.reversed in
+    let stack = c.args.self.now.container.value in
+    let op = c.first-op.result in
+    let made = c.fold_on-made.result in
+    let begun = subst (λ on. IsFolding on front [] op × (underway_of (machine_of on) op.pass ≡ no_step (pass_in c.in-Some.by))) c.deref.ensures c.first-op.ensures in
+    let went = subst (λ on. (from : Front) (values : List ℕ) → IsFolding on from values op → FoldTried on from values (begun_of on op.pass) made) c.deref-in-Some.ensures c.fold_on-made.ensures in
+    subst (λ v. FoldTried stack front [] v made) (ap (λ (u : Underway _). u.begun) begun.1) (went front [] begun.0)
+
+pub returns-in-Some-clause-of : goal.returns-in-Some-clause-of
+returns-in-Some-clause-of c =
+    let stack = c.args.self.now.container.value in
+    settles (stack_reading stack) c.fold_on-made.result c.settle.new.self c.settle.result
+    (fold_worked stack [] (pass_in c.in-Some.by) (front_from c.args.reversed) c.fold_on-made.result (tried c)) c.settle.ensures
+
+pub returns-in-Some-clause-gives : goal.returns-in-Some-clause-gives
+returns-in-Some-clause-gives c =
+    let p = c.args.self.now in
+    began stack_reading (FoldTried p.container.value (front_from c.args.reversed) []) p (record p { stage = c.settle.new.self }) c.settle.result c.in-Some.by c.in-Some.ensures.value refl
+    (c.fold_on-made.result, tried c, c.settle.ensures)

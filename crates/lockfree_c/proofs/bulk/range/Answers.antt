@@ -1,0 +1,27 @@
+use Rattle.std.proofs.Common.{sym, subst}
+use Rattle.std.specs.Prelude.{IsSome}
+use Rattle.std.specs.List.{AllByRecursion as Every}
+use Rattle.bounded_model.specs.declared.answers.Stepped.TheVariants.{Again, Done}
+use Rattle.running.specs.Kept.{pass_in}
+use Rattle.treiber_stack.specs.RangeTrying.{RangeBegun}
+use Rattle.lockfree_c.specs.Stacks.{RangeTried}
+use Rattle.lockfree_c.proofs.bulk.range.Goals as goal
+
+pub begin_range-requires-clause-values : goal.begin_range-requires-clause-values
+begin_range-requires-clause-values c = subst (λ places. Every (λ place. IsSome place) places) (sym c.deref.ensures.value) c.requires.values
+
+pub range_on-requires : goal.range_on-requires
+range_on-requires c =
+    let begun = subst (λ ps. RangeBegun c.args.stack.now (pass_in c.args.by) ps (Again c.in-Again.op)) c.deref.ensures.value c.in-Again.ensures in
+    (begun.0.0, begun.0.2.0)
+
+pub returns-in-Again : goal.returns-in-Again
+returns-in-Again c =
+    let begun = subst (λ ps. RangeBegun c.args.stack.now (pass_in c.args.by) ps (Again c.in-Again.op)) c.deref.ensures.value c.in-Again.ensures in
+    let went = c.range_on.ensures in
+    (begun.0.0, begun.0.1, (went.0, subst (λ v. RangeTried c.args.stack.now begun.0.0 v went.0 c.range_on.result) begun.0.2.1 (went.1 begun.0.0 begun.0.2.0)))
+
+pub returns-in-Done : goal.returns-in-Done
+returns-in-Done c =
+    let begun = subst (λ ps. RangeBegun c.args.stack.now (pass_in c.args.by) ps (Done c.in-Done.by c.in-Done.said)) c.deref.ensures.value c.in-Done.ensures in
+    (begun.0.0, begun.0.1, (c.args.values.items, begun.0.2))

@@ -1,0 +1,12 @@
+use Rattle.std.proofs.Common.{◌≡◌, ℕ, sym, subst}
+use Rattle.running.specs.Kept.{underway_in}
+use Rattle.running.specs.declared.passes.Pass.{Pass}
+use Rattle.queue_machine.specs.declared.lines.Line.{Line}
+use Rattle.queue_table.specs.Lines.{names}
+use Rattle.ms_queue.specs.Queue.{pass_in}
+use Rattle.lockfree_c.proofs.calls.queue.QueueU64BoundedCalls.put_at_once.Goals as goal
+
+pub returns-in-Again-clause-tried : goal.returns-in-Again-clause-tried
+returns-in-Again-clause-tried c =
+    let tried = c.in-Again.ensures in
+    (c.of_put.ensures.makes c.args.self.now c.args.value tried.0, subst (λ (p : Pass ℕ (Line ℕ)). (underway_in names p).begun ≡ pass_in c.args.by) (sym c.of_put.ensures.same) tried.1)

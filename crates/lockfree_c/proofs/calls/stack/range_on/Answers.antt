@@ -1,0 +1,24 @@
+use Rattle.std.proofs.Common.{subst, List, ℕ, arith}
+use Rattle.std.proofs.lemmas.List.{with_items_is}
+use Rattle.bounded_model.specs.declared.answers.Stepped.TheVariants.{Again, Done}
+use Rattle.treiber_stack.specs.RangeTrying.{IsRanging, RangeTried}
+use Rattle.treiber_stack.specs.Stack.{begun_of}
+use Rattle.lockfree_c.proofs.calls.stack.range_on.Goals as goal
+
+pub returns-in-Again : goal.returns-in-Again
+returns-in-Again c =
+    let on = c.args.stack.now in
+    let op = c.args.op in
+    let places = c.run_range_for-made.new.values in
+    let made = Again c.in-Again.op in
+    let tried = subst (λ old. (values : List ℕ) → IsRanging on values old op → RangeTried on values (begun_of on op.pass) places made) c.deref_mut.ensures.value c.in-Again.ensures.tried in
+    (places, λ values is. (with_items_is c.args.values places (omega arith), tried values is))
+
+pub returns-in-Done : goal.returns-in-Done
+returns-in-Done c =
+    let on = c.args.stack.now in
+    let op = c.args.op in
+    let places = c.run_range_for-made.new.values in
+    let made = Done c.in-Done.by c.in-Done.said in
+    let tried = subst (λ old. (values : List ℕ) → IsRanging on values old op → RangeTried on values (begun_of on op.pass) places made) c.deref_mut.ensures.value c.in-Done.ensures.tried in
+    (places, tried)

@@ -1,0 +1,183 @@
+//! Folds and ranges of a stack's pass. One compare-and-swap takes or puts all their values.
+ghost use Rattle.std.specs.Prelude.{◌≡◌, ℕ, List, [], Option, IsSome, map, Some};
+ghost use Rattle.std.specs.List.{AllByRecursion as Every};
+ghost use Rattle.bounded_model.specs.Stepping.{no_step};
+ghost use Rattle.running.specs.Ops.{underway_of};
+ghost use Rattle.treiber_stack.specs.FoldOp.{IsFolding};
+ghost use Rattle.treiber_stack.specs.Stack.{IsPassOf, machine_of, pass_in};
+ghost use Rattle.lockfree_c.specs.Bulk.{
+  Continues,
+  PassAdded,
+  PassCopied,
+  PassFolded,
+  PassRangePut,
+  RangeBegan,
+  front_from,
+};
+ghost use Rattle.lockfree_c.specs.Passes.{IsPass};
+ghost use Rattle.lockfree_c.specs.Stacks.{CopyTried, RangeTried, stack_reading};
+
+use crate::answers::{Answer, EMPTY, NO_MEMORY, OK, UNDER_WAY};
+use crate::calls::{StackWork, copy_on, fold_on, range_on};
+use crate::held::StackPass;
+use crate::work::{Said, UnderWay, Worked};
+use bounded_model::Stepped;
+use std::alloc::Global;
+use std::mem;
+use treiber_stack::{FoldOp, Pass, Stack};
+
+// A fold that makes no step yet.
+fn first(stack: &Stack<u64>, by: Pass<u64>, reversed: bool) -> FoldOp<u64>
+    requires { IsPassOf stack.now by }
+    ensures { IsFolding stack.now (front_from reversed) [] result
+        × (underway_of (machine_of stack.now) result.pass ≡ no_step (pass_in by)) }
+{
+    if reversed {
+        stack.begin_fold_reversed(by)
+    } else {
+        stack.begin_fold(by)
+    }
+}
+
+// A put of these values, begun and tried.
+fn copy(
+    stack: &Stack<u64>,
+    by: Pass<u64>,
+    values: &[u64],
+    tries: u64,
+) -> Worked<StackWork, Pass<u64>>
+    requires { IsPassOf stack.now by }
+    ensures { CopyTried stack.now values.now (pass_in by) result }
+{
+    match stack.begin_copies(by, values) {
+        Stepped::Again(op) => copy_on(stack, op, values, tries),
+        Stepped::Done(by, said) => Worked::Done(by, Said::Range(said)),
+    }
+}
+
+// A put of the values in these places, begun and tried.
+fn range(
+    stack: &Stack<u64>,
+    by: Pass<u64>,
+    values: Vec<Option<u64>>,
+    tries: u64,
+) -> Worked<StackWork, Pass<u64>>
+    requires by { IsPassOf stack.now by }
+    requires values { Every (λ place. IsSome place) values.items }
+    ensures { (vs : List ℕ) × (values.items ≡ map Some vs)
+        × ((left : List (Option ℕ)) × RangeTried stack.now vs (pass_in by) left result) }
+{
+    match stack.begin_range(by, &values) {
+        Stepped::Again(op) => range_on(stack, op, values, tries),
+        Stepped::Done(by, said) => Worked::Done(by, Said::Range(said)),
+    }
+}
+
+impl StackPass {
+    /// Folds all values. If the pass is in a call already, nothing changes, and the code is
+    /// `UNDER_WAY`.
+    pub fn fold(&mut self, reversed: bool, tries: u64) -> Answer
+        requires { IsPass stack_reading self.old }
+        ensures of { IsPass stack_reading self.new }
+        ensures gives { PassFolded self.old (front_from reversed) self.new result }
+    {
+        match self.stage.resting.take() {
+            Some(by) => {
+                let op = first(&self.container, by, reversed);
+                let made = fold_on(&self.container, op, tries);
+                self.stage.settle(made)
+            }
+            None => Answer::of(UNDER_WAY),
+        }
+    }
+
+    /// Adds a value to the range that the pass collects, or begins one with it. If there is no
+    /// memory, the code is `NO_MEMORY`. If the pass is in a call, it is `UNDER_WAY`.
+    pub fn add(&mut self, alloc: Global, value: u64) -> u32
+        requires { IsPass stack_reading self.old }
+        ensures of { IsPass stack_reading self.new }
+        ensures gives { PassAdded self.old value self.new result }
+    {
+        match mem::replace(&mut self.stage.under_way, UnderWay::Nothing) {
+            UnderWay::Work(StackWork::Range(by, values)) => {
+                let mut values = values;
+                let code = match values.push(Some(value)) {
+                    Ok(()) => OK,
+                    Err(_) => NO_MEMORY,
+                };
+                self.stage.under_way = UnderWay::Work(StackWork::Range(by, values));
+                code
+            }
+            other => {
+                self.stage.under_way = other;
+                self.begin_range(alloc, value)
+            }
+        }
+    }
+
+    // Begins a range with this value.
+    fn begin_range(&mut self, alloc: Global, value: u64) -> u32
+        requires { IsPass stack_reading self.old }
+        ensures of { IsPass stack_reading self.new }
+        ensures gives { RangeBegan self.old value self.new result }
+    {
+        let Some(by) = self.stage.resting.take() else {
+            return UNDER_WAY;
+        };
+        let mut values = Vec::new(alloc);
+        match values.push(Some(value)) {
+            Ok(()) => {
+                self.stage.under_way = UnderWay::Work(StackWork::Range(by, values));
+                OK
+            }
+            Err(_) => {
+                self.stage.resting = Some(by);
+                NO_MEMORY
+            }
+        }
+    }
+
+    /// Puts the values of the range that the pass collects. If it collects none, nothing changes,
+    /// and the code is `EMPTY`, or `UNDER_WAY` if it is in a call.
+    pub fn put_range(&mut self, tries: u64) -> Answer
+        requires { IsPass stack_reading self.old }
+        ensures of { IsPass stack_reading self.new }
+        ensures gives { PassRangePut self.old self.new result }
+    {
+        match mem::replace(&mut self.stage.under_way, UnderWay::Nothing) {
+            UnderWay::Nothing => Answer::of(EMPTY),
+            UnderWay::Work(StackWork::Range(by, values)) => {
+                let made = range(&self.container, by, values, tries);
+                self.stage.settle(made)
+            }
+            other => {
+                self.stage.under_way = other;
+                Answer::of(UNDER_WAY)
+            }
+        }
+    }
+
+    /// Puts these values as a range, or continues their put. If the pass is in another call,
+    /// nothing changes, and the code is `UNDER_WAY`.
+    pub fn put_copies(&mut self, values: &[u64], tries: u64) -> Answer
+        requires pass { IsPass stack_reading self.old }
+        requires same { Continues self.old values.now }
+        ensures of { IsPass stack_reading self.new }
+        ensures gives { PassCopied self.old values.now self.new result }
+    {
+        if let Some(by) = self.stage.resting.take() {
+            let made = copy(&self.container, by, values, tries);
+            return self.stage.settle(made);
+        }
+        match mem::replace(&mut self.stage.under_way, UnderWay::Nothing) {
+            UnderWay::Work(StackWork::Copy(op)) => {
+                let made = copy_on(&self.container, op, values, tries);
+                self.stage.settle(made)
+            }
+            other => {
+                self.stage.under_way = other;
+                Answer::of(UNDER_WAY)
+            }
+        }
+    }
+}

@@ -1,0 +1,144 @@
+//! A queue's calls, counts and gauges: each makes its fast path and then a bounded number of steps.
+ghost use Rattle.running.specs.Passes.{begun_of};
+ghost use Rattle.ms_queue.specs.Counting.{IsCounting};
+ghost use Rattle.ms_queue.specs.Gauging.{IsGauging};
+ghost use Rattle.ms_queue.specs.Queue.{machine_of};
+ghost use Rattle.lockfree_c.specs.Queues.{CountTried, GaugeTried};
+
+use crate::calls::{BoundedCalls, Counts};
+use crate::steps::{QUEUE_COUNT, QUEUE_GAUGE, steps_for};
+use crate::work::{Said, Worked};
+use bounded_model::{Command, Reply, Stepped};
+use ms_queue::{AnyOp, GaugeOp, LenOp, Pass, Queue, QueueAt, Rest, Root};
+
+/// A queue's work: a count or a gauge.
+#[derive(Drop)]
+pub enum QueueWork {
+    Count(LenOp<u64>),
+    Gauge(GaugeOp<u64>),
+}
+
+// Continues a count of this queue.
+fn count_on(queue: &Queue<u64>, op: LenOp<u64>, tries: u64) -> Worked<QueueWork, Pass<u64>>
+    requires { IsCounting queue.now op }
+    ensures { CountTried queue.now (begun_of (machine_of queue.now) op.pass) result }
+{
+    match op.run_for(queue, steps_for(QUEUE_COUNT, tries)) {
+        Stepped::Again(op) => Worked::Again(QueueWork::Count(op)),
+        Stepped::Done(by, count) => Worked::Done(by, Said::Count(count)),
+    }
+}
+
+// Continues a gauge of this queue.
+fn gauge_on(queue: &Queue<u64>, op: GaugeOp<u64>, tries: u64) -> Worked<QueueWork, Pass<u64>>
+    requires { IsGauging queue.now op }
+    ensures { GaugeTried queue.now (begun_of (machine_of queue.now) op.pass) result }
+{
+    match op.run_for(queue, steps_for(QUEUE_GAUGE, tries)) {
+        Stepped::Again(op) => Worked::Again(QueueWork::Gauge(op)),
+        Stepped::Done(by, shown) => Worked::Done(by, Said::Gauge(shown.closed, shown.used)),
+    }
+}
+
+impl BoundedCalls for Queue<u64> {
+    ghost use Rattle.lockfree_c.specs.Calls.{Begins};
+    ghost use Rattle.lockfree_c.specs.Queues.{GaugeTried, queue_reading};
+    ghost use Rattle.ms_queue.specs.Queue.{IsPassOf};
+
+    type Root = Root<u64>;
+
+    type Pass = Pass<u64>;
+
+    type Operation = AnyOp<u64>;
+
+    type Work = QueueWork;
+
+    type Rest = Rest<u64>;
+
+    const UNDISTURBED: u64 = 18;
+
+    const TO_EXCHANGE: u64 = 6;
+
+    ghost UNDISTURBED = { 18 };
+
+    ghost TO_EXCHANGE = { 6 };
+
+    ghost reading = { queue_reading };
+
+    ghost gauges = { GaugeTried };
+
+    #[inline]
+    fn split_off(&self, parent: &mut Root<u64>) -> Option<Pass<u64>> {
+        self.split(parent)
+    }
+
+    #[inline]
+    fn end_with(self, parent: Root<u64>) -> Rest<u64> {
+        self.finish(parent)
+    }
+
+    #[inline(always)]
+    fn begin(&self, by: Pass<u64>, command: Command<u64>) -> AnyOp<u64>
+        requires { IsPassOf self.now by }
+        ensures { Begins (queue_reading self.now) by command result }
+    {
+        self.begin(by, command)
+    }
+
+    #[inline]
+    fn run_for(
+        &self,
+        operation: AnyOp<u64>,
+        steps: u64,
+    ) -> Stepped<AnyOp<u64>, Pass<u64>, Reply<u64>> {
+        operation.run_for(self, steps)
+    }
+
+    #[inline(always)]
+    fn put_at_once(&self, by: Pass<u64>, value: u64) -> Stepped<AnyOp<u64>, Pass<u64>, Reply<u64>> {
+        match self.put_at_once(by, value) {
+            Stepped::Again(op) => Stepped::Again(QueueAt::of_put(op)),
+            Stepped::Done(back, said) => Stepped::Done(back, Reply::Put(said)),
+        }
+    }
+
+    #[inline(always)]
+    fn take_at_once(&self, by: Pass<u64>) -> Stepped<AnyOp<u64>, Pass<u64>, Reply<u64>> {
+        match self.take_at_once(by) {
+            Stepped::Again(op) => Stepped::Again(QueueAt::of_take(op)),
+            Stepped::Done(back, said) => Stepped::Done(back, Reply::Take(said)),
+        }
+    }
+
+    #[inline(always)]
+    fn look_at_once(&self, by: Pass<u64>) -> Stepped<AnyOp<u64>, Pass<u64>, Reply<u64>> {
+        match self.look_at_once(by) {
+            Stepped::Again(op) => Stepped::Again(QueueAt::of_look(op)),
+            Stepped::Done(back, said) => Stepped::Done(back, Reply::Look(said)),
+        }
+    }
+
+    fn work_on(&self, work: QueueWork, tries: u64) -> Worked<QueueWork, Pass<u64>> {
+        match work {
+            QueueWork::Count(op) => count_on(self, op, tries),
+            QueueWork::Gauge(op) => gauge_on(self, op, tries),
+        }
+    }
+
+    fn gauge_for(&self, by: Pass<u64>, tries: u64) -> Worked<QueueWork, Pass<u64>> {
+        gauge_on(self, self.begin_gauge(by), tries)
+    }
+}
+
+impl Counts for Queue<u64> {
+    ghost use Rattle.lockfree_c.specs.Queues.{CountTried};
+
+    ghost counts = { CountTried };
+
+    fn count_for(&self, by: Pass<u64>, tries: u64) -> Worked<QueueWork, Pass<u64>> {
+        match self.len_at_once(by) {
+            Stepped::Again(op) => count_on(self, op, tries),
+            Stepped::Done(by, len) => Worked::Done(by, Said::Count(len)),
+        }
+    }
+}

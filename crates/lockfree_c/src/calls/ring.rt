@@ -1,0 +1,143 @@
+//! A ring's calls, counts and gauges: each makes its fast path and then a bounded number of steps.
+ghost use Rattle.running.specs.Passes.{begun_of};
+ghost use Rattle.ring_queue.specs.Counting.{IsCounting};
+ghost use Rattle.ring_queue.specs.Gauging.{IsGauging};
+ghost use Rattle.ring_queue.specs.Ring.{machine_of};
+ghost use Rattle.lockfree_c.specs.Rings.{CountTried, GaugeTried};
+
+use crate::calls::{BoundedCalls, Counts};
+use crate::steps::{RING_COUNT, RING_GAUGE, steps_for};
+use crate::work::{Said, Worked};
+use bounded_model::{Command, Reply, Stepped};
+use ring_queue::{AnyOp, GaugeOp, LenOp, Pass, Rest, RingAt, RingQueue, Root};
+
+/// A ring's work: a count or a gauge.
+#[derive(Drop)]
+pub enum RingWork {
+    Count(LenOp<u64>),
+    Gauge(GaugeOp<u64>),
+}
+
+// Continues a count of this ring.
+fn count_on(ring: &RingQueue<u64>, op: LenOp<u64>, tries: u64) -> Worked<RingWork, Pass<u64>>
+    requires { IsCounting ring.now op }
+    ensures { CountTried ring.now (begun_of (machine_of ring.now) op.pass) result }
+{
+    match op.run_for(ring, steps_for(RING_COUNT, tries)) {
+        Stepped::Again(op) => Worked::Again(RingWork::Count(op)),
+        Stepped::Done(by, count) => Worked::Done(by, Said::Count(count)),
+    }
+}
+
+// Continues a gauge of this ring.
+fn gauge_on(ring: &RingQueue<u64>, op: GaugeOp<u64>, tries: u64) -> Worked<RingWork, Pass<u64>>
+    requires { IsGauging ring.now op }
+    ensures { GaugeTried ring.now (begun_of (machine_of ring.now) op.pass) result }
+{
+    match op.run_for(ring, steps_for(RING_GAUGE, tries)) {
+        Stepped::Again(op) => Worked::Again(RingWork::Gauge(op)),
+        Stepped::Done(by, shown) => Worked::Done(by, Said::Gauge(shown.closed, shown.used)),
+    }
+}
+
+impl BoundedCalls for RingQueue<u64> {
+    ghost use Rattle.lockfree_c.specs.Calls.{Begins};
+    ghost use Rattle.lockfree_c.specs.Rings.{GaugeTried, ring_reading};
+    ghost use Rattle.ring_queue.specs.Ring.{IsPassOf};
+
+    type Root = Root<u64>;
+
+    type Pass = Pass<u64>;
+
+    type Operation = AnyOp<u64>;
+
+    type Work = RingWork;
+
+    type Rest = Rest<u64>;
+
+    // The steps of a take, if the hint lags as far as it can and has moved meanwhile.
+    const UNDISTURBED: u64 = 17;
+
+    // The hint, four positions, and the exchange there.
+    const TO_EXCHANGE: u64 = 6;
+
+    ghost UNDISTURBED = { 17 };
+
+    ghost TO_EXCHANGE = { 6 };
+
+    ghost reading = { ring_reading };
+
+    ghost gauges = { GaugeTried };
+
+    #[inline]
+    fn split_off(&self, parent: &mut Root<u64>) -> Option<Pass<u64>> {
+        self.split(parent)
+    }
+
+    #[inline]
+    fn end_with(self, parent: Root<u64>) -> Rest<u64> {
+        self.finish(parent)
+    }
+
+    #[inline(always)]
+    fn begin(&self, by: Pass<u64>, command: Command<u64>) -> AnyOp<u64>
+        requires { IsPassOf self.now by }
+        ensures { Begins (ring_reading self.now) by command result }
+    {
+        self.begin(by, command)
+    }
+
+    #[inline]
+    fn run_for(
+        &self,
+        operation: AnyOp<u64>,
+        steps: u64,
+    ) -> Stepped<AnyOp<u64>, Pass<u64>, Reply<u64>> {
+        operation.run_for(self, steps)
+    }
+
+    #[inline(always)]
+    fn put_at_once(&self, by: Pass<u64>, value: u64) -> Stepped<AnyOp<u64>, Pass<u64>, Reply<u64>> {
+        match self.put_at_once(by, value) {
+            Stepped::Again(op) => Stepped::Again(RingAt::of_put(op)),
+            Stepped::Done(back, said) => Stepped::Done(back, Reply::Put(said)),
+        }
+    }
+
+    #[inline(always)]
+    fn take_at_once(&self, by: Pass<u64>) -> Stepped<AnyOp<u64>, Pass<u64>, Reply<u64>> {
+        match self.take_at_once(by) {
+            Stepped::Again(op) => Stepped::Again(RingAt::of_take(op)),
+            Stepped::Done(back, said) => Stepped::Done(back, Reply::Take(said)),
+        }
+    }
+
+    #[inline(always)]
+    fn look_at_once(&self, by: Pass<u64>) -> Stepped<AnyOp<u64>, Pass<u64>, Reply<u64>> {
+        match self.look_at_once(by) {
+            Stepped::Again(op) => Stepped::Again(RingAt::of_look(op)),
+            Stepped::Done(back, said) => Stepped::Done(back, Reply::Look(said)),
+        }
+    }
+
+    fn work_on(&self, work: RingWork, tries: u64) -> Worked<RingWork, Pass<u64>> {
+        match work {
+            RingWork::Count(op) => count_on(self, op, tries),
+            RingWork::Gauge(op) => gauge_on(self, op, tries),
+        }
+    }
+
+    fn gauge_for(&self, by: Pass<u64>, tries: u64) -> Worked<RingWork, Pass<u64>> {
+        gauge_on(self, self.begin_gauge(by), tries)
+    }
+}
+
+impl Counts for RingQueue<u64> {
+    ghost use Rattle.lockfree_c.specs.Rings.{CountTried};
+
+    ghost counts = { CountTried };
+
+    fn count_for(&self, by: Pass<u64>, tries: u64) -> Worked<RingWork, Pass<u64>> {
+        count_on(self, self.begin_len(by), tries)
+    }
+}

@@ -1,0 +1,16 @@
+-- A range in parts whose values leave places.
+use Rattle.std.proofs.Common.{◌≡◌, List, sym, subst}
+use Rattle.std.specs.Prelude.{Option as Slot, Result}
+use Rattle.bounded_model.specs.declared.answers.Stepped.{Stepped}
+use Rattle.bounded_model.specs.declared.answers.Stepped.TheVariants.{Again, Done}
+use Rattle.bounded_model.specs.declared.bulk.Ranged.{Ranged}
+use Rattle.bounded_model.specs.declared.bulk.RangeRefused.{RangeRefused}
+use Rattle.bounded_model.specs.declared.views.PassView.{PassView}
+use Rattle.treiber_stack.specs.Ranging.{PutsOf, places_from}
+use Rattle.treiber_stack.specs.RangeTrying.{RangeCame, RangeOp, RangeTried, left_after}
+use Rattle.treiber_stack.specs.Stack.{Pass, Stack}
+
+module _ {T : Type 0} (c : Stack T) (vs : List T) (v : PassView T) where
+  pub in_places : (made : Stepped (RangeOp T) (Pass T) (Result Ranged RangeRefused)) (places : List (Slot T)) → RangeCame c vs v made → places ≡ places_from (left_after made) vs → RangeTried c vs v places made
+  in_places (Again next) places came are = (record { put = came.0; places_are = are }, came.1)
+  in_places (Done back answer) places came are = subst (λ (ps : List (Slot T)). PutsOf c v vs ps back answer) (sym are) came
