@@ -37,6 +37,8 @@ impl<C: BoundedCalls> PassOf<C, C::Pass, C::Operation, C::Work> {
                 Stepped::Done(by, said) => self.stage.rest(by, said),
                 Stepped::Again(operation) => {
                     aside();
+                    // Nothing is under way, so nothing is there to be dropped. An assignment would
+                    // drop it all the same, and hold the call in memory of its own until then.
                     mem::forget(mem::replace(&mut self.stage.under_way, UnderWay::Call(operation)));
                     self.go_on(tries)
                 }
@@ -62,6 +64,7 @@ impl<C: BoundedCalls> PassOf<C, C::Pass, C::Operation, C::Work> {
                 Stepped::Done(by, said) => self.stage.rest(by, said),
                 Stepped::Again(operation) => {
                     aside();
+                    // As in `put`.
                     mem::forget(mem::replace(&mut self.stage.under_way, UnderWay::Call(operation)));
                     self.go_on(tries)
                 }
