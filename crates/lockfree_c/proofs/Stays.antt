@@ -1,6 +1,6 @@
 -- A tried call, or a tried work, leaves its pass at rest or with something under way.
 use Rattle.std.proofs.Common.{sym, subst}
-use Rattle.std.specs.Prelude.{◌≡◌, ℕ, Option, Some, None, MatchOption}
+use Rattle.std.specs.Prelude.{◌≡◌, ℕ, Option, None, MatchOption}
 use Rattle.bounded_model.specs.declared.answers.Stepped.{Stepped}
 use Rattle.bounded_model.specs.declared.answers.Stepped.TheVariants as stepped
 use Rattle.bounded_model.specs.declared.commands.Command.{Command}
@@ -40,15 +40,3 @@ module _ {R P O W : Type 0} (r : Reading R P O W) where
   settles (Value x next) s a is left = is_in s (Work next) left.0 is
   settles (Waits next) s a is left = is_in s (Work next) left.0 is
   settles (Done back said) s a is left = is_back s back (work_number said) left.0 is
-
-  -- where something is under way, no pass rests
-  busy_at : (resting : Option P) (u : UnderWay O W) → At resting u → (u ≡ Nothing → ⊥) → IsUnderWay r u
-  busy_at None u at busy = at
-  busy_at (Some by) u at busy = absurd (busy at.1)
-
-  pub busy_with : (s : Stage P O W) (u : UnderWay O W) → IsStage r s → u ≡ s.under_way → (u ≡ Nothing → ⊥) → IsUnderWay r u
-  busy_with s u is same busy = busy_at s.resting u (subst (λ v. At s.resting v) (sym same) is) busy
-
-  -- where a pass rests, nothing is under way
-  pub rests_at : (s : Stage P O W) (by : P) → IsStage r s → Some by ≡ s.resting → r.is_pass by × (s.under_way ≡ Nothing)
-  rests_at s by is rests = subst (λ x. At x s.under_way) (sym rests) is

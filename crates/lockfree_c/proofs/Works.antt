@@ -5,8 +5,8 @@ use Rattle.bounded_model.specs.declared.views.PassView.{PassView}
 use Rattle.index_list.specs.declared.front.Front.{Front}
 use Rattle.treiber_stack.specs.RangeTrying.{IsRanging}
 use Rattle.lockfree_c.specs.Calls.{IsWorked}
-use Rattle.lockfree_c.specs.Stacks.{CopyTried, FoldTried, RangeTried, Stack, StackMade, stack_reading}
-use Rattle.lockfree_c.specs.declared.calls.stack.StackWork.TheVariants.{Fold, RangePut, Copy}
+use Rattle.lockfree_c.specs.Stacks.{FoldTried, RangeTried, Stack, StackMade, stack_reading}
+use Rattle.lockfree_c.specs.declared.calls.stack.StackWork.TheVariants.{Fold, RangePut}
 use Rattle.lockfree_c.specs.declared.work.Said.TheVariants as said
 use Rattle.lockfree_c.specs.declared.work.Worked.TheVariants.{Again, Value, Done}
 
@@ -21,8 +21,3 @@ module _ (c : Stack) (values : List ℕ) (begun : PassView ℕ) where
   range_worked left (Again (RangePut next places)) tried = (values, subst (λ ps. IsRanging c values ps next) (sym tried.0) tried.1.0)
   range_worked left (Done back (said.Range answer)) tried = tried.0
   range_worked left made tried = absurd tried
-
-  pub copy_worked : (made : StackMade) → CopyTried c values begun made → IsWorked (stack_reading c) made
-  copy_worked (Again (Copy next)) tried = (values, tried.0)
-  copy_worked (Done back (said.Range answer)) tried = tried.0
-  copy_worked made tried = absurd tried
