@@ -24,7 +24,7 @@ pub use consume::{consume_all, consume_one};
 pub use container::{Container, Leaving, MAX_PASSES, MIN_PASSES};
 pub use history::{Event, Order};
 pub use plain_list::{COUNT_LIMIT, MAX_LIST_CAPACITY, PlainList};
-pub use stepwise::Stepwise;
+pub use stepwise::{Stepwise, begin};
 pub use theorems::{
     calls_alone_are_a_list, capacity_is_kept, closing_is_final, nothing_is_lost, queue_keeps_order,
     stack_keeps_order,

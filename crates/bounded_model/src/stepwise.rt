@@ -5,6 +5,7 @@ ghost use Rattle.bounded_model.specs.Calls.{CallGives};
 ghost use Rattle.bounded_model.specs.Laws.{Answers, LookGives};
 ghost use Rattle.bounded_model.specs.Stepping.{Underway, no_step, OneStep, GoesOn, MatchStepped};
 ghost use Rattle.bounded_model.specs.declared.commands.Command.{Command};
+ghost use Rattle.bounded_model.specs.declared.commands.Command.TheVariants.{Put, Take, Close, Shut, Look};
 ghost use Rattle.bounded_model.specs.declared.views.Answered.TheVariants.{Look as LookAnswered};
 
 use crate::{Command, Container, Reply, Stepped};
@@ -18,7 +19,7 @@ use std::sync::Wait;
 /// call promises from the begin on. An operation that is dropped takes its pass with it.
 ///
 /// ```text
-/// let mut op = container.begin(pass, Command::Put(value));
+/// let mut op = begin(&container, pass, Command::Put(value));
 /// loop {
 ///     match container.step(op) {
 ///         Stepped::Again(next) => op = next,
@@ -38,10 +39,34 @@ pub trait Stepwise<T>: Container<T> {
     /// The view of an operation's pass as the operation was begun, and its view now.
     ghost making: { Self.Op → Underway T };
 
-    /// An operation that makes this call, and has made no step yet.
-    fn begin(&self, by: Self::Pass, command: Command<T>) -> Self::Op
+    /// Begins a put of this value.
+    fn begin_put(&self, by: Self::Pass, value: T) -> Self::Op
         requires { Self.is_pass self.now by }
-        ensures call { is_making self.now command result }
+        ensures call { is_making self.now (Put value) result }
+        ensures begun { making result ≡ no_step (Self.pass by) };
+
+    /// Begins a take.
+    fn begin_take(&self, by: Self::Pass) -> Self::Op
+        requires { Self.is_pass self.now by }
+        ensures call { is_making self.now Take result }
+        ensures begun { making result ≡ no_step (Self.pass by) };
+
+    /// Begins a close.
+    fn begin_close(&self, by: Self::Pass) -> Self::Op
+        requires { Self.is_pass self.now by }
+        ensures call { is_making self.now Close result }
+        ensures begun { making result ≡ no_step (Self.pass by) };
+
+    /// Begins a shut.
+    fn begin_shut(&self, by: Self::Pass) -> Self::Op
+        requires { Self.is_pass self.now by }
+        ensures call { is_making self.now Shut result }
+        ensures begun { making result ≡ no_step (Self.pass by) };
+
+    /// Begins a look.
+    fn begin_look(&self, by: Self::Pass) -> Self::Op
+        requires { Self.is_pass self.now by }
+        ensures call { is_making self.now Look result }
         ensures begun { making result ≡ no_step (Self.pass by) };
 
     /// One step of an operation. The reply is that of its call.
@@ -73,4 +98,20 @@ pub trait Stepwise<T>: Container<T> {
         ensures gives { LookGives (Self.shape self.now) (Self.pass by)
             (Self.pass result.0) result.1 }
         ensures answered { Answers (Self.pass by) (Self.pass result.0) (LookAnswered result.1) };
+}
+
+/// An operation that makes this call, and has made no step yet. Called in `player`.
+#[inline(always)]
+pub fn begin<T, C: Stepwise<T>>(container: &C, by: C::Pass, command: Command<T>) -> C::Op
+    requires { C.is_pass container.now by }
+    ensures call { C.is_making container.now command result }
+    ensures begun { C.making result ≡ no_step (C.pass by) }
+{
+    match command {
+        Command::Put(value) => container.begin_put(by, value),
+        Command::Take => container.begin_take(by),
+        Command::Close => container.begin_close(by),
+        Command::Shut => container.begin_shut(by),
+        Command::Look => container.begin_look(by),
+    }
 }

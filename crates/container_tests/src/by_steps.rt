@@ -1,7 +1,7 @@
 ghost use Rattle.std.specs.Prelude.{IfSome};
 ghost use Rattle.bounded_model.specs.Calls.{CallGives};
 
-use bounded_model::{Command, Container, PutRefused, Reply, Stepped, Stepwise, TakeRefused};
+use bounded_model::{Command, Container, PutRefused, Reply, Stepped, Stepwise, TakeRefused, begin};
 use ring_queue::{RingLimits, RingQueue};
 use tagged_index::{Limits, MAX_TAG};
 use treiber_stack::Stack;
@@ -20,7 +20,7 @@ fn call_by_steps<C: Stepwise<u32>>(
     ensures { IfSome result (λ r. C.is_pass container.now r.0
         × CallGives (C.shape container.now) (C.pass by) command (C.pass r.0) r.1) }
 {
-    let mut op = container.begin(by, command);
+    let mut op = begin(container, by, command);
     for before in 0..MOST_STEPS {
         match container.step(op) {
             Stepped::Again(next) => op = next,

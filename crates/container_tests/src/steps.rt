@@ -3,7 +3,7 @@
 
 ghost use Rattle.bounded_model.specs.declared.commands.Command.{Command};
 
-use bounded_model::{Command, Container, Order, Reply, Stepped, Stepwise};
+use bounded_model::{Container, Order, Reply, Stepped, Stepwise};
 use std::alloc::Global;
 use std::process::Abort;
 use std::sync::{Arc, Wait};
@@ -58,12 +58,12 @@ pub(crate) fn ended_at_their_last<C: Stepwise<u32>, R: Abort>(
 {
     let mut root = root;
     let pass = container.split(&mut root).expect(rt, "a pass");
-    let begun = container.begin(pass, Command::Put(7));
+    let begun = container.begin_put(pass, 7);
     let put = continued(rt, &container, begun, steps.put.saturating_sub(1));
     let Stepped::Done(pass, Reply::Put(Ok(0))) = container.step(put) else {
         panic!(rt; "the put ended late")
     };
-    let begun = container.begin(pass, Command::Take);
+    let begun = container.begin_take(pass);
     let take = continued(rt, &container, begun, steps.take.saturating_sub(1));
     let Stepped::Done(_, Reply::Take(Ok(taken))) = container.step(take) else {
         panic!(rt; "the take ended late")
@@ -90,7 +90,7 @@ pub(crate) fn dropped_put<C: Stepwise<Arc<u8>>, R: Abort>(
     let mut root = root;
     let pass = container.split(&mut root).expect(rt, "a pass");
     let clone = Arc::try_clone(&value).expect(rt, "a clone");
-    let begun = container.begin(pass, Command::Put(clone));
+    let begun = container.begin_put(pass, clone);
     drop(continued(rt, &container, begun, made));
     let owners = if made < steps.kept { 1 } else { 2 };
     assert_eq!(rt; Arc::strong_count(&value), owners);
@@ -115,7 +115,7 @@ pub(crate) fn dropped_take<C: Stepwise<Arc<u8>>, R: Abort + Wait>(
     let pass = container.split(&mut root).expect(rt, "a pass");
     let (pass, put) = container.put(rt, pass, Arc::try_clone(&value).expect(rt, "a clone"));
     assert!(rt; put.is_ok());
-    let begun = container.begin(pass, Command::Take);
+    let begun = container.begin_take(pass);
     drop(continued(rt, &container, begun, made));
     let owners = if made < steps.taken { 2 } else { 1 };
     assert_eq!(rt; Arc::strong_count(&value), owners);
@@ -139,7 +139,7 @@ pub(crate) fn dropped_late_put<C: Stepwise<Arc<u8>>, R: Abort + Wait>(
     let pass = container.split(&mut root).expect(rt, "a pass");
     let closer = container.split(&mut root).expect(rt, "a pass");
     let clone = Arc::try_clone(&value).expect(rt, "a clone");
-    let begun = container.begin(pass, Command::Put(clone));
+    let begun = container.begin_put(pass, clone);
     let put = continued(rt, &container, begun, steps.closed);
     let (_, closed) = container.close(rt, closer);
     assert!(rt; closed);

@@ -5,7 +5,7 @@
 ghost use Rattle.std.specs.Prelude.{IfSome};
 ghost use Rattle.bounded_model.specs.Calls.{CallGives};
 
-use bounded_model::{Command, Container, MakeRefused, Reply, Stepped, Stepwise};
+use bounded_model::{Command, Container, MakeRefused, Reply, Stepped, Stepwise, begin};
 use ms_queue::Queue;
 use ring_queue::{RingLimits, RingQueue};
 use std::alloc::AllocError;
@@ -41,7 +41,7 @@ fn call_by_steps<T: Drop + Send, C: Stepwise<T>>(
     ensures { IfSome result (λ done. C.is_pass container.now done.0
         × CallGives (C.shape container.now) (C.pass by) command (C.pass done.0) done.1) }
 {
-    let mut op = container.begin(by, command);
+    let mut op = begin(container, by, command);
     for count in 1..=ENOUGH {
         match container.step(op) {
             Stepped::Again(next) => op = next,

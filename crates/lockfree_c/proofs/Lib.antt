@@ -3,4 +3,5 @@ pub mod New
 pub mod Stays
 pub mod Shared
 pub mod Works
+pub mod Ranges
 pub mod Splitting

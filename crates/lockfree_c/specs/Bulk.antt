@@ -6,7 +6,7 @@ use Rattle.treiber_stack.specs.Copying.{IsCopying}
 use Rattle.treiber_stack.specs.Stack as stack
 use Rattle.treiber_stack.specs.Stepwise.{AnyOp}
 use Rattle.lockfree_c.specs.Passes.{PassBegan, PassKept, PassWorks}
-use Rattle.lockfree_c.specs.Stacks.{CopyTried, FoldTried, RangeTried, Stack, stack_reading}
+use Rattle.lockfree_c.specs.Stacks.{Copied, CopiedOn, Folded, RangePutBy, Stack, stack_reading}
 use Rattle.lockfree_c.specs.declared.answers.Answer.{Answer}
 use Rattle.lockfree_c.specs.declared.answers.TheConstants.{OK, EMPTY, NO_MEMORY, UNDER_WAY}
 use Rattle.lockfree_c.specs.declared.calls.stack.StackWork.{StackWork}
@@ -26,8 +26,8 @@ abbrev pub front_from : Bool → Front
 front_from true = Last
 front_from false = First
 
-abbrev pub PassFolded : StackPass → Front → StackPass → Answer → Type 0
-PassFolded p front q a = PassBegan stack_reading (FoldTried p.container.value front []) p q a
+abbrev pub PassFolded : ℕ → StackPass → Front → StackPass → Answer → Type 0
+PassFolded tries p front q a = PassBegan stack_reading (Folded p.container.value tries front) p q a
 
 -- A range, value by value
 
@@ -56,23 +56,23 @@ abbrev pub PassAdded : StackPass → ℕ → StackPass → ℕ → Type 0
 PassAdded p x q code = AddedTo p.stage.under_way p x q code
 
 -- the put of the values that were collected is tried, from what the pass had seen; C added no value, or the pass is in a call: nothing changes
-abbrev pub PutFrom : StackUnderWay → StackPass → StackPass → Answer → Type 0
-PutFrom (Work (Range by places)) p q a = (values : List ℕ) × (places.items ≡ map Some values)
-    × ((left : List (Option ℕ)) × PassWorks (RangeTried p.container.value values (stack.pass_in by) left) p q a)
-PutFrom u p q a = MatchOption p.stage.resting (PassKept UNDER_WAY p q a) (λ by. PassKept EMPTY p q a)
+abbrev pub PutFrom : ℕ → StackUnderWay → StackPass → StackPass → Answer → Type 0
+PutFrom tries (Work (Range by places)) p q a = (values : List ℕ) × (places.items ≡ map Some values)
+    × PassWorks (RangePutBy p.container.value tries values (stack.pass_in by)) p q a
+PutFrom tries u p q a = MatchOption p.stage.resting (PassKept UNDER_WAY p q a) (λ by. PassKept EMPTY p q a)
 
-abbrev pub PassRangePut : StackPass → StackPass → Answer → Type 0
-PassRangePut p q a = PutFrom p.stage.under_way p q a
+abbrev pub PassRangePut : ℕ → StackPass → StackPass → Answer → Type 0
+PassRangePut tries p q a = PutFrom tries p.stage.under_way p q a
 
 -- A range from an array of C's
 
 -- its put is tried, from what the pass had seen; or the put of it that is under way is tried further
-abbrev pub CopiedFrom : StackUnderWay → StackPass → List ℕ → StackPass → Answer → Type 0
-CopiedFrom (Work (Copy op)) p values q a = PassWorks (CopyTried p.container.value values (stack.begun_of p.container.value op.pass)) p q a
-CopiedFrom u p values q a = PassBegan stack_reading (CopyTried p.container.value values) p q a
+abbrev pub CopiedFrom : ℕ → StackUnderWay → StackPass → List ℕ → StackPass → Answer → Type 0
+CopiedFrom tries (Work (Copy op)) p values q a = PassWorks (CopiedOn p.container.value tries values op) p q a
+CopiedFrom tries u p values q a = PassBegan stack_reading (Copied p.container.value tries values) p q a
 
-abbrev pub PassCopied : StackPass → List ℕ → StackPass → Answer → Type 0
-PassCopied p values q a = CopiedFrom p.stage.under_way p values q a
+abbrev pub PassCopied : ℕ → StackPass → List ℕ → StackPass → Answer → Type 0
+PassCopied tries p values q a = CopiedFrom tries p.stage.under_way p values q a
 
 -- a put of an array that is under way continues with the values that it was begun with
 abbrev pub ContinuesAt : Stack → StackUnderWay → List ℕ → Type 0

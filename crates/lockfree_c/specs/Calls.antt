@@ -15,7 +15,7 @@ use Rattle.lockfree_c.specs.declared.work.Worked.TheVariants.{Again, Value, Wait
 abbrev pub steps_of : ℕ → ℕ → ℕ → ℕ
 steps_of undisturbed each tries = min (min (tries * each) (2 ^ 64 - 1) + undisturbed) (2 ^ 64 - 1)
 
--- how a container's root, its passes, its calls and its works are read
+-- How a container's root, its passes, its calls and its works are read, and how many steps each call makes at once, before its tries, at the most
 pub record Reading (R P O W : Type 0) : Type 1 where
   pub shape : Shape
   pub is_root : R → Type 0
@@ -24,9 +24,18 @@ pub record Reading (R P O W : Type 0) : Type 1 where
   pub pass : P → PassView ℕ
   pub is_making : Command ℕ → O → Type 0
   pub making : O → Underway ℕ
+  pub at_once : Command ℕ → ℕ
   pub is_work : W → Type 0
-  -- some steps of a work that is under way came to this
-  pub works_on : W → Worked W P → Type 0
+  -- this number of tries of a work that is under way came to this
+  pub works_on : ℕ → W → Worked W P → Type 0
+
+-- a work whose pass was v has made at most n steps more; `now` and `pass` read the pass of a work and a pass that is back
+module _ {P W : Type 0} (now : W → PassView ℕ) (pass : P → PassView ℕ) where
+  abbrev pub WorkedFor : ℕ → PassView ℕ → Worked W P → Type 0
+  WorkedFor n v (Again next) = (now next).steps ≤ v.steps + n
+  WorkedFor n v (Value x next) = (now next).steps ≤ v.steps + n
+  WorkedFor n v (Waits next) = (now next).steps ≤ v.steps + n
+  WorkedFor n v (Done back said) = (pass back).steps ≤ v.steps + n
 
 module _ {R P O W : Type 0} (r : Reading R P O W) where
   abbrev pub MakesSome : O → Type 0
@@ -56,6 +65,10 @@ module _ {R P O W : Type 0} (r : Reading R P O W) where
   -- if a call that its pass began as this is still under way, it has made at least n steps
   abbrev pub TookAtLeast : ℕ → PassView ℕ → Stepped O P (Reply ℕ) → Type 0
   TookAtLeast n begun made = MatchStepped made (λ next. begun.steps + n ≤ (r.making next).now.steps) (λ back said. Unit {0})
+
+  -- a call that its pass began as this has made at most n steps
+  abbrev pub TookAtMost : ℕ → PassView ℕ → Stepped O P (Reply ℕ) → Type 0
+  TookAtMost n begun made = MatchStepped made (λ next. (r.making next).now.steps ≤ begun.steps + n) (λ back said. (r.pass back).steps ≤ begun.steps + n)
 
   -- a work that was tried is under way, or its pass is back
   abbrev pub IsWorked : Worked W P → Type 0

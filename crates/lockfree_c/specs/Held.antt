@@ -88,15 +88,15 @@ HeldCalled tries h call g a = EachDoes
 
 abbrev pub HeldWentOn : ℕ → Held → Held → Answer → Type 0
 HeldWentOn tries h g a = EachDoes
-    (PassWentOn queues.queue_reading (queue_steps tries))
-    (PassWentOn stacks.stack_reading (stack_steps tries))
-    (PassWentOn rings.ring_reading (ring_steps tries)) h g a
+    (PassWentOn queues.queue_reading tries (queue_steps tries))
+    (PassWentOn stacks.stack_reading tries (stack_steps tries))
+    (PassWentOn rings.ring_reading tries (ring_steps tries)) h g a
 
-abbrev pub HeldGauged : Held → Held → Answer → Type 0
-HeldGauged h g a = EachDoes
-    (λ p. PassBegan queues.queue_reading (queues.GaugeTried p.container.value) p)
-    (λ p. PassBegan stacks.stack_reading (stacks.GaugeTried p.container.value) p)
-    (λ p. PassBegan rings.ring_reading (rings.GaugeTried p.container.value) p) h g a
+abbrev pub HeldGauged : ℕ → Held → Held → Answer → Type 0
+HeldGauged tries h g a = EachDoes
+    (λ p. PassBegan queues.queue_reading (queues.Gauged p.container.value tries) p)
+    (λ p. PassBegan stacks.stack_reading (stacks.Gauged p.container.value tries) p)
+    (λ p. PassBegan rings.ring_reading (rings.Gauged p.container.value tries) p) h g a
 
 -- the number of the call that ended last
 abbrev pub HeldNumber : Held → Answer → Type 0
@@ -107,12 +107,12 @@ HeldNumber h a = a ≡ bare OTHER_HANDLE
 
 -- The calls that only some containers have
 
-abbrev pub HeldCounted : Held → Held → Answer → Type 0
-HeldCounted (Queue (Pass p)) (Queue (Pass q)) a = PassBegan queues.queue_reading (queues.CountTried p.container.value) p q a
-HeldCounted (Queue (Pass p)) g a = ⊥
-HeldCounted (Ring (Pass p)) (Ring (Pass q)) a = PassBegan rings.ring_reading (rings.CountTried p.container.value) p q a
-HeldCounted (Ring (Pass p)) g a = ⊥
-HeldCounted h g a = Declined h g a
+abbrev pub HeldCounted : ℕ → Held → Held → Answer → Type 0
+HeldCounted tries (Queue (Pass p)) (Queue (Pass q)) a = PassBegan queues.queue_reading (queues.Counted p.container.value tries) p q a
+HeldCounted tries (Queue (Pass p)) g a = ⊥
+HeldCounted tries (Ring (Pass p)) (Ring (Pass q)) a = PassBegan rings.ring_reading (rings.Counted p.container.value tries) p q a
+HeldCounted tries (Ring (Pass p)) g a = ⊥
+HeldCounted tries h g a = Declined h g a
 
 -- what a stack's pass does; nothing else makes the call
 abbrev pub StackDoes : (StackPass → StackPass → Answer → Type 0) → Held → Held → Answer → Type 0
@@ -120,19 +120,19 @@ StackDoes Does (Stack (Pass p)) (Stack (Pass q)) a = Does p q a
 StackDoes Does (Stack (Pass p)) g a = ⊥
 StackDoes Does h g a = Declined h g a
 
-abbrev pub HeldFolded : Held → Front → Held → Answer → Type 0
-HeldFolded h front g a = StackDoes (λ p q b. PassFolded p front q b) h g a
+abbrev pub HeldFolded : ℕ → Held → Front → Held → Answer → Type 0
+HeldFolded tries h front g a = StackDoes (λ p q b. PassFolded tries p front q b) h g a
 
 abbrev pub HeldAdded : Held → ℕ → Held → ℕ → Type 0
 HeldAdded (Stack (Pass p)) x (Stack (Pass q)) code = PassAdded p x q code
 HeldAdded (Stack (Pass p)) x g code = ⊥
 HeldAdded h x g code = (code ≡ refusal_of h) × (g ≡ h)
 
-abbrev pub HeldRangePut : Held → Held → Answer → Type 0
-HeldRangePut h g a = StackDoes PassRangePut h g a
+abbrev pub HeldRangePut : ℕ → Held → Held → Answer → Type 0
+HeldRangePut tries h g a = StackDoes (PassRangePut tries) h g a
 
-abbrev pub HeldCopied : Held → List ℕ → Held → Answer → Type 0
-HeldCopied h values g a = StackDoes (λ p q b. PassCopied p values q b) h g a
+abbrev pub HeldCopied : ℕ → Held → List ℕ → Held → Answer → Type 0
+HeldCopied tries h values g a = StackDoes (λ p q b. PassCopied tries p values q b) h g a
 
 abbrev pub HeldContinues : Held → List ℕ → Type 0
 HeldContinues (Stack (Pass p)) values = Continues p values

@@ -29,7 +29,7 @@ module _ {C P O W : Type 0} where
     abbrev pub IsPass : PassOf C P O W → Type 0
     IsPass p = IsStage (reading p.container.value) p.stage
 
-    -- a call of this pass, from what it had seen, tried for at least n steps if it does not end
+    -- a call of this pass, from what it had seen, tried for n steps, or to its end, after those that it makes at once
     abbrev pub PassCalled : ℕ → PassOf C P O W → Command ℕ → PassOf C P O W → Answer → Type 0
     PassCalled n p call q a = IfRests p q a (λ by. Tries (reading p.container.value) n ((reading p.container.value).pass by) call q.stage a)
 
@@ -41,11 +41,11 @@ module _ {C P O W : Type 0} where
     abbrev pub PassTried : ℕ → PassOf C P O W → O → PassOf C P O W → Answer → Type 0
     PassTried n p op q a = (q.container.value ≡ p.container.value) × TriesOn (reading p.container.value) n op q.stage a
 
-    abbrev pub GoesOn : UnderWay O W → ℕ → PassOf C P O W → PassOf C P O W → Answer → Type 0
-    GoesOn Nothing n p q a = PassKept NO_CALL p q a
-    GoesOn (Call op) n p q a = PassTried n p op q a
-    GoesOn (Work w) n p q a = PassWorks ((reading p.container.value).works_on w) p q a
+    abbrev pub GoesOn : UnderWay O W → ℕ → ℕ → PassOf C P O W → PassOf C P O W → Answer → Type 0
+    GoesOn Nothing tries n p q a = PassKept NO_CALL p q a
+    GoesOn (Call op) tries n p q a = PassTried n p op q a
+    GoesOn (Work w) tries n p q a = PassWorks ((reading p.container.value).works_on tries w) p q a
 
-    -- what is under way is tried further
-    abbrev pub PassWentOn : ℕ → PassOf C P O W → PassOf C P O W → Answer → Type 0
-    PassWentOn n p q a = GoesOn p.stage.under_way n p q a
+    -- what is under way is tried further, with this number of tries, which allows a call n steps
+    abbrev pub PassWentOn : ℕ → ℕ → PassOf C P O W → PassOf C P O W → Answer → Type 0
+    PassWentOn tries n p q a = GoesOn p.stage.under_way tries n p q a

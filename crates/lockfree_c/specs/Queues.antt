@@ -1,16 +1,18 @@
 -- How a queue is read, and what its counts and gauges give.
-use Rattle.std.specs.Prelude.{◌≡◌, ℕ}
+use Rattle.std.specs.Prelude.{◌≡◌, ℕ, ◌+◌}
 use Rattle.bounded_model.specs.Laws.{Answers}
 use Rattle.bounded_model.specs.declared.answers.Stepped.TheVariants as stepped
+use Rattle.bounded_model.specs.declared.commands.Command.{Command}
+use Rattle.bounded_model.specs.declared.commands.Command.TheVariants.{Look, Put, Take}
 use Rattle.bounded_model.specs.declared.views.Answered.TheVariants as answered
 use Rattle.bounded_model.specs.declared.views.PassView.{PassView}
-use Rattle.running.specs.Passes.{begun_of}
+use Rattle.running.specs.Passes as passes
 use Rattle.ms_queue.specs.Counting.{IsCounting}
 use Rattle.ms_queue.specs.Gauging.{GaugeGives, IsGauging}
 use Rattle.ms_queue.specs.Queue as queue
 use Rattle.ms_queue.specs.Stepwise.{AnyOp, IsMakingCall, making}
 use Rattle.ms_queue.specs.Trying.{LenTried}
-use Rattle.lockfree_c.specs.Calls.{Reading}
+use Rattle.lockfree_c.specs.Calls.{Reading, WorkedFor, steps_of}
 use Rattle.lockfree_c.specs.declared.calls.queue.QueueWork.{QueueWork}
 use Rattle.lockfree_c.specs.declared.calls.queue.QueueWork.TheVariants.{Count, Gauge}
 use Rattle.lockfree_c.specs.declared.work.Said.TheVariants as said
@@ -23,6 +25,22 @@ Queue = queue.Queue ℕ
 abbrev pub QueueMade : Type 0
 QueueMade = Worked QueueWork (queue.Pass ℕ)
 
+-- the pass of a work, as it is now
+abbrev pub working : QueueWork → PassView ℕ
+working (Count op) = passes.pass_in op.pass
+working (Gauge op) = passes.pass_in op.pass
+
+-- a work whose pass was v has made at most n steps more
+abbrev pub WorkedAtMost : ℕ → PassView ℕ → QueueMade → Type 0
+WorkedAtMost n v made = WorkedFor working queue.pass_in n v made
+
+-- how many steps a number of tries of a count and of a gauge allows
+abbrev pub count_steps : ℕ → ℕ
+count_steps = steps_of 4 4
+
+abbrev pub gauge_steps : ℕ → ℕ
+gauge_steps = steps_of 8 4
+
 module _ (c : Queue) where
   -- a count that its pass began as v was tried: it is under way, begun as before, or gave how many values there were at one moment since
   abbrev pub CountTried : PassView ℕ → QueueMade → Type 0
@@ -32,19 +50,33 @@ module _ (c : Queue) where
 
   -- a gauge was tried: it is under way, begun as before, or has shown how the queue was at one moment since
   abbrev pub GaugeTried : PassView ℕ → QueueMade → Type 0
-  GaugeTried v (Again (Gauge next)) = IsGauging c next × (begun_of (queue.machine_of c) next.pass ≡ v)
+  GaugeTried v (Again (Gauge next)) = IsGauging c next × (passes.begun_of (queue.machine_of c) next.pass ≡ v)
   GaugeTried v (Done back (said.Gauge closed used)) = queue.IsPassOf c back
       × GaugeGives (queue.room_of c) (queue.limit_of c) v (queue.pass_in back) (record { closed = closed; used = used })
       × Answers v (queue.pass_in back) (answered.Gauge closed used)
   GaugeTried v made = ⊥
 
+  -- a count, which makes four steps at once, and a gauge were begun and tried
+  abbrev pub Counted : ℕ → PassView ℕ → QueueMade → Type 0
+  Counted tries v made = CountTried v made × WorkedAtMost (4 + count_steps tries) v made
+
+  abbrev pub Gauged : ℕ → PassView ℕ → QueueMade → Type 0
+  Gauged tries v made = GaugeTried v made × WorkedAtMost (gauge_steps tries) v made
+
   abbrev pub IsQueueWork : QueueWork → Type 0
   IsQueueWork (Count op) = IsCounting c op
   IsQueueWork (Gauge op) = IsGauging c op
 
-  abbrev pub QueueWorksOn : QueueWork → QueueMade → Type 0
-  QueueWorksOn (Count op) made = CountTried (begun_of (queue.machine_of c) op.pass) made
-  QueueWorksOn (Gauge op) made = GaugeTried (begun_of (queue.machine_of c) op.pass) made
+  abbrev pub QueueWorksOn : ℕ → QueueWork → QueueMade → Type 0
+  QueueWorksOn tries (Count op) made = CountTried (passes.begun_of (queue.machine_of c) op.pass) made × WorkedAtMost (count_steps tries) (passes.pass_in op.pass) made
+  QueueWorksOn tries (Gauge op) made = GaugeTried (passes.begun_of (queue.machine_of c) op.pass) made × WorkedAtMost (gauge_steps tries) (passes.pass_in op.pass) made
+
+-- the most steps that each call makes at once
+abbrev pub queue_at_once : Command ℕ → ℕ
+queue_at_once (Put x) = 14
+queue_at_once Take = 12
+queue_at_once Look = 3
+queue_at_once call = 0
 
 abbrev pub queue_reading : Queue → Reading (queue.Root ℕ) (queue.Pass ℕ) (AnyOp ℕ) QueueWork
 queue_reading c = record {
@@ -55,6 +87,7 @@ queue_reading c = record {
   pass = queue.pass_in;
   is_making = IsMakingCall c;
   making = making;
+  at_once = queue_at_once;
   is_work = IsQueueWork c;
   works_on = QueueWorksOn c;
 }

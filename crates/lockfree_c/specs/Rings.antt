@@ -1,15 +1,17 @@
 -- How a ring is read, and what its counts and gauges give.
 use Rattle.std.specs.Prelude.{◌≡◌, ℕ}
 use Rattle.bounded_model.specs.Laws.{Answers, LenGives}
+use Rattle.bounded_model.specs.declared.commands.Command.{Command}
+use Rattle.bounded_model.specs.declared.commands.Command.TheVariants.{Look, Put, Take}
 use Rattle.bounded_model.specs.declared.views.Answered.TheVariants as answered
 use Rattle.bounded_model.specs.declared.views.PassView.{PassView}
-use Rattle.running.specs.Passes.{begun_of}
+use Rattle.running.specs.Passes as passes
 use Rattle.ring_queue.specs.Counting.{IsCounting}
 use Rattle.ring_queue.specs.Gauging.{GaugeGives, IsGauging}
 use Rattle.ring_queue.specs.Ring as ring
 use Rattle.ring_queue.specs.Roots.{IsRootOf, Root, root_in}
 use Rattle.ring_queue.specs.Stepwise.{AnyOp, IsMakingCall, making}
-use Rattle.lockfree_c.specs.Calls.{Reading}
+use Rattle.lockfree_c.specs.Calls.{Reading, WorkedFor, steps_of}
 use Rattle.lockfree_c.specs.declared.calls.ring.RingWork.{RingWork}
 use Rattle.lockfree_c.specs.declared.calls.ring.RingWork.TheVariants.{Count, Gauge}
 use Rattle.lockfree_c.specs.declared.work.Said.TheVariants as said
@@ -22,28 +24,58 @@ Ring = ring.RingQueue ℕ
 abbrev pub RingMade : Type 0
 RingMade = Worked RingWork (ring.Pass ℕ)
 
+-- the pass of a work, as it is now
+abbrev pub working : RingWork → PassView ℕ
+working (Count op) = passes.pass_in op.pass
+working (Gauge op) = passes.pass_in op.pass
+
+-- a work whose pass was v has made at most n steps more
+abbrev pub WorkedAtMost : ℕ → PassView ℕ → RingMade → Type 0
+WorkedAtMost n v made = WorkedFor working ring.pass_in n v made
+
+-- how many steps a number of tries of a count and of a gauge allows
+abbrev pub count_steps : ℕ → ℕ
+count_steps = steps_of 17 17
+
+abbrev pub gauge_steps : ℕ → ℕ
+gauge_steps = steps_of 8 8
+
 module _ (c : Ring) where
   -- a count that its pass began as v was tried: it is under way, begun as before, or gave how many values there were at one moment since
   abbrev pub CountTried : PassView ℕ → RingMade → Type 0
-  CountTried v (Again (Count next)) = IsCounting c next × (begun_of (ring.machine_of c) next.pass ≡ v)
+  CountTried v (Again (Count next)) = IsCounting c next × (passes.begun_of (ring.machine_of c) next.pass ≡ v)
   CountTried v (Done back (said.Count n)) = ring.IsPassOf c back × LenGives (ring.shape_of c) v (ring.pass_in back) n × Answers v (ring.pass_in back) (answered.Len n)
   CountTried v made = ⊥
 
   -- a gauge was tried: it is under way, begun as before, or has shown how the ring was at one moment since
   abbrev pub GaugeTried : PassView ℕ → RingMade → Type 0
-  GaugeTried v (Again (Gauge next)) = IsGauging c next × (begun_of (ring.machine_of c) next.pass ≡ v)
+  GaugeTried v (Again (Gauge next)) = IsGauging c next × (passes.begun_of (ring.machine_of c) next.pass ≡ v)
   GaugeTried v (Done back (said.Gauge closed used)) = ring.IsPassOf c back
       × GaugeGives (ring.room_of c) (ring.laps_of c) v (ring.pass_in back) (record { closed = closed; used = used })
       × Answers v (ring.pass_in back) (answered.Gauge closed used)
   GaugeTried v made = ⊥
 
+  -- a count and a gauge were begun and tried
+  abbrev pub Counted : ℕ → PassView ℕ → RingMade → Type 0
+  Counted tries v made = CountTried v made × WorkedAtMost (count_steps tries) v made
+
+  abbrev pub Gauged : ℕ → PassView ℕ → RingMade → Type 0
+  Gauged tries v made = GaugeTried v made × WorkedAtMost (gauge_steps tries) v made
+
   abbrev pub IsRingWork : RingWork → Type 0
   IsRingWork (Count op) = IsCounting c op
   IsRingWork (Gauge op) = IsGauging c op
 
-  abbrev pub RingWorksOn : RingWork → RingMade → Type 0
-  RingWorksOn (Count op) made = CountTried (begun_of (ring.machine_of c) op.pass) made
-  RingWorksOn (Gauge op) made = GaugeTried (begun_of (ring.machine_of c) op.pass) made
+  abbrev pub RingWorksOn : ℕ → RingWork → RingMade → Type 0
+  RingWorksOn tries (Count op) made = CountTried (passes.begun_of (ring.machine_of c) op.pass) made × WorkedAtMost (count_steps tries) (passes.pass_in op.pass) made
+  RingWorksOn tries (Gauge op) made = GaugeTried (passes.begun_of (ring.machine_of c) op.pass) made × WorkedAtMost (gauge_steps tries) (passes.pass_in op.pass) made
+
+-- the most steps that each call makes at once
+abbrev pub ring_at_once : Command ℕ → ℕ
+ring_at_once (Put x) = 11
+ring_at_once Take = 12
+ring_at_once Look = 9
+ring_at_once call = 0
 
 abbrev pub ring_reading : Ring → Reading (Root ℕ) (ring.Pass ℕ) (AnyOp ℕ) RingWork
 ring_reading c = record {
@@ -54,6 +86,7 @@ ring_reading c = record {
   pass = ring.pass_in;
   is_making = IsMakingCall c;
   making = making;
+  at_once = ring_at_once;
   is_work = IsRingWork c;
   works_on = RingWorksOn c;
 }

@@ -34,19 +34,19 @@ SlotWentOn tries s t a = Either s.full
     ((t.full ≡ true) × HeldWentOn tries s.handle.held t.handle.held a)
     (IsEmpty t × (a ≡ bare NO_HANDLE))
 
-abbrev pub SlotCounted : Slot → Slot → Answer → Type 0
-SlotCounted s t a = Either s.full
-    ((t.full ≡ true) × HeldCounted s.handle.held t.handle.held a)
+abbrev pub SlotCounted : ℕ → Slot → Slot → Answer → Type 0
+SlotCounted tries s t a = Either s.full
+    ((t.full ≡ true) × HeldCounted tries s.handle.held t.handle.held a)
     (IsEmpty t × (a ≡ bare NO_HANDLE))
 
-abbrev pub SlotGauged : Slot → Slot → Answer → Type 0
-SlotGauged s t a = Either s.full
-    ((t.full ≡ true) × HeldGauged s.handle.held t.handle.held a)
+abbrev pub SlotGauged : ℕ → Slot → Slot → Answer → Type 0
+SlotGauged tries s t a = Either s.full
+    ((t.full ≡ true) × HeldGauged tries s.handle.held t.handle.held a)
     (IsEmpty t × (a ≡ bare NO_HANDLE))
 
-abbrev pub SlotFolded : Slot → Front → Slot → Answer → Type 0
-SlotFolded s front t a = Either s.full
-    ((t.full ≡ true) × HeldFolded s.handle.held front t.handle.held a)
+abbrev pub SlotFolded : ℕ → Slot → Front → Slot → Answer → Type 0
+SlotFolded tries s front t a = Either s.full
+    ((t.full ≡ true) × HeldFolded tries s.handle.held front t.handle.held a)
     (IsEmpty t × (a ≡ bare NO_HANDLE))
 
 abbrev pub SlotAdded : Slot → ℕ → Slot → ℕ → Type 0
@@ -54,18 +54,18 @@ SlotAdded s x t code = Either s.full
     ((t.full ≡ true) × HeldAdded s.handle.held x t.handle.held code)
     (IsEmpty t × (code ≡ NO_HANDLE))
 
-abbrev pub SlotRangePut : Slot → Slot → Answer → Type 0
-SlotRangePut s t a = Either s.full
-    ((t.full ≡ true) × HeldRangePut s.handle.held t.handle.held a)
+abbrev pub SlotRangePut : ℕ → Slot → Slot → Answer → Type 0
+SlotRangePut tries s t a = Either s.full
+    ((t.full ≡ true) × HeldRangePut tries s.handle.held t.handle.held a)
     (IsEmpty t × (a ≡ bare NO_HANDLE))
 
 -- a put of an array that is under way continues with that array
 abbrev pub SlotContinues : Slot → List ℕ → Type 0
 SlotContinues s values = s.full ≡ true → HeldContinues s.handle.held values
 
-abbrev pub SlotCopied : Slot → List ℕ → Slot → Answer → Type 0
-SlotCopied s values t a = Either s.full
-    ((t.full ≡ true) × HeldCopied s.handle.held values t.handle.held a)
+abbrev pub SlotCopied : ℕ → Slot → List ℕ → Slot → Answer → Type 0
+SlotCopied tries s values t a = Either s.full
+    ((t.full ≡ true) × HeldCopied tries s.handle.held values t.handle.held a)
     (IsEmpty t × (a ≡ bare NO_HANDLE))
 
 -- what is behind it is as it was

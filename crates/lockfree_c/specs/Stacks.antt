@@ -1,11 +1,14 @@
 -- How a stack is read, and what its works give.
-use Rattle.std.specs.Prelude.{◌≡◌, ℕ, List, Option, IsSome}
+use Rattle.std.specs.Prelude.{◌≡◌, ℕ, ◌+◌, List, [], false, Option, IsSome, Ok, Err}
 use Rattle.std.specs.List.{AllByRecursion as Every}
 use Rattle.bounded_model.specs.Laws.{Answers}
 use Rattle.bounded_model.specs.declared.answers.Stepped.TheVariants as stepped
+use Rattle.bounded_model.specs.declared.commands.Command.{Command}
+use Rattle.bounded_model.specs.declared.commands.Command.TheVariants.{Look, Put, Take}
 use Rattle.bounded_model.specs.declared.views.Answered.TheVariants as answered
 use Rattle.bounded_model.specs.declared.views.PassView.{PassView}
 use Rattle.index_list.specs.declared.front.Front.{Front}
+use Rattle.running.specs.Passes as passes
 use Rattle.treiber_stack.specs.Copying as copying
 use Rattle.treiber_stack.specs.FoldOp as folding
 use Rattle.treiber_stack.specs.Gauging.{GaugeGives}
@@ -13,7 +16,7 @@ use Rattle.treiber_stack.specs.RangeTrying as ranging
 use Rattle.treiber_stack.specs.Stack as stack
 use Rattle.treiber_stack.specs.Stepwise.{AnyOp, IsMakingCall, making}
 use Rattle.treiber_stack.specs.declared.bulk.fold_op.FoldMade.TheVariants as fold
-use Rattle.lockfree_c.specs.Calls.{Reading}
+use Rattle.lockfree_c.specs.Calls.{Reading, WorkedFor, steps_of}
 use Rattle.lockfree_c.specs.declared.calls.stack.StackWork.{StackWork}
 use Rattle.lockfree_c.specs.declared.calls.stack.StackWork.TheVariants.{Fold, Range, RangePut, Copy}
 use Rattle.lockfree_c.specs.declared.work.Said.TheVariants as said
@@ -25,6 +28,41 @@ Stack = stack.Stack ℕ
 
 abbrev pub StackMade : Type 0
 StackMade = Worked StackWork (stack.Pass ℕ)
+
+-- the pass of a work, as it is now
+abbrev pub working : StackWork → PassView ℕ
+working (Fold op) = passes.pass_in op.pass
+working (Range by places) = stack.pass_in by
+working (RangePut op places) = passes.pass_in op.pass
+working (Copy op) = passes.pass_in op.pass
+
+-- a work whose pass was v has made at most n steps more
+abbrev pub WorkedAtMost : ℕ → PassView ℕ → StackMade → Type 0
+WorkedAtMost n v made = WorkedFor working stack.pass_in n v made
+
+-- how many steps a number of tries of a fold and of a range allows
+abbrev pub bulk_steps : ℕ → ℕ
+bulk_steps = steps_of 10 3
+
+-- the put of a range that was under way was tried for n steps a part
+abbrev pub RangeTook : ℕ → ranging.RangeOp ℕ → StackMade → Type 0
+RangeTook n op (Again (RangePut next places)) = ranging.RangeSteps n op (stepped.Again next)
+RangeTook n op (Again (Copy next)) = ranging.RangeSteps n op (stepped.Again next)
+RangeTook n op (Done back (said.Range answer)) = ranging.RangeSteps n op (stepped.Done back answer)
+RangeTook n op made = ⊥
+
+-- the steps of one that its pass began as v: those of a part that took its nodes, unless it is on its way back, and exactly n if it has no node yet
+abbrev pub RangeWentOn : ℕ → PassView ℕ → ranging.RangeOp ℕ → Type 0
+RangeWentOn n v op = ranging.gives_back op.at.at ≡ false → ranging.MadeWith n op.at.held.count v (passes.pass_in op.pass)
+    × (op.at.held.count ≡ 0 → (passes.pass_in op.pass).steps ≡ v.steps + n)
+
+-- the same of what it came to, if it is under way or was put
+abbrev pub RangeTookFrom : ℕ → PassView ℕ → StackMade → Type 0
+RangeTookFrom n v (Again (RangePut next places)) = RangeWentOn n v next
+RangeTookFrom n v (Again (Copy next)) = RangeWentOn n v next
+RangeTookFrom n v (Done back (said.Range (Ok put))) = ranging.MadeWith n put.count v (stack.pass_in back)
+RangeTookFrom n v (Done back (said.Range (Err why))) = Unit {0}
+RangeTookFrom n v made = ⊥
 
 module _ (c : Stack) where
   -- a fold from this end, that had handed out these values and its pass began as v, was tried
@@ -53,6 +91,25 @@ module _ (c : Stack) where
       × Answers v (stack.pass_in back) (answered.Gauge closed used)
   GaugeTried v made = ⊥
 
+  -- a gauge is one step, whatever the number of tries
+  abbrev pub Gauged : ℕ → PassView ℕ → StackMade → Type 0
+  Gauged tries v made = GaugeTried v made × WorkedAtMost 1 v made
+
+  -- a fold was begun and tried up to its first value
+  abbrev pub Folded : ℕ → Front → PassView ℕ → StackMade → Type 0
+  Folded tries front v made = FoldTried front [] v made × WorkedAtMost (bulk_steps tries) v made
+
+  -- a put of a range, and one of an array, were begun and tried
+  abbrev pub RangePutBy : ℕ → List ℕ → PassView ℕ → StackMade → Type 0
+  RangePutBy tries values v made = ((left : List (Option ℕ)) × RangeTried values v left made) × RangeTookFrom (bulk_steps tries) v made
+
+  abbrev pub Copied : ℕ → List ℕ → PassView ℕ → StackMade → Type 0
+  Copied tries values v made = CopyTried values v made × RangeTookFrom (bulk_steps tries) v made
+
+  -- a put of an array that was under way was tried further
+  abbrev pub CopiedOn : ℕ → List ℕ → ranging.RangeOp ℕ → StackMade → Type 0
+  CopiedOn tries values op made = CopyTried values (stack.begun_of c op.pass) made × RangeTook (bulk_steps tries) op made
+
   -- a fold that has handed out some values, a range that has a value in each place, the put of one, or of an array
   abbrev pub IsStackWork : StackWork → Type 0
   IsStackWork (Fold op) = (front : Front) × (values : List ℕ) × folding.IsFolding c front values op
@@ -62,12 +119,21 @@ module _ (c : Stack) where
 
   -- it is tried further, from whichever end and whichever values it puts; a range that is collected waits for its put, and a put of an
   -- array for its array
-  abbrev pub StackWorksOn : StackWork → StackMade → Type 0
-  StackWorksOn (Fold op) made = (front : Front) (values : List ℕ) → folding.IsFolding c front values op → FoldTried front values (stack.begun_of c op.pass) made
-  StackWorksOn (RangePut op places) made = (left : List (Option ℕ))
-      × ((values : List ℕ) → ranging.IsRanging c values places.items op → RangeTried values (stack.begun_of c op.pass) left made)
-  StackWorksOn (Range by places) made = made ≡ Waits (Range by places)
-  StackWorksOn (Copy op) made = made ≡ Waits (Copy op)
+  abbrev pub StackWorksOn : ℕ → StackWork → StackMade → Type 0
+  StackWorksOn tries (Fold op) made = ((front : Front) (values : List ℕ) → folding.IsFolding c front values op → FoldTried front values (stack.begun_of c op.pass) made)
+      × WorkedAtMost (bulk_steps tries) (passes.pass_in op.pass) made
+  StackWorksOn tries (RangePut op places) made = ((left : List (Option ℕ))
+      × ((values : List ℕ) → ranging.IsRanging c values places.items op → RangeTried values (stack.begun_of c op.pass) left made))
+      × RangeTook (bulk_steps tries) op made
+  StackWorksOn tries (Range by places) made = made ≡ Waits (Range by places)
+  StackWorksOn tries (Copy op) made = made ≡ Waits (Copy op)
+
+-- the most steps that each call makes at once
+abbrev pub stack_at_once : Command ℕ → ℕ
+stack_at_once (Put x) = 6
+stack_at_once Take = 6
+stack_at_once Look = 1
+stack_at_once call = 0
 
 abbrev pub stack_reading : Stack → Reading (stack.Root ℕ) (stack.Pass ℕ) (AnyOp ℕ) StackWork
 stack_reading c = record {
@@ -78,6 +144,7 @@ stack_reading c = record {
   pass = stack.pass_in;
   is_making = IsMakingCall c;
   making = making;
+  at_once = stack_at_once;
   is_work = IsStackWork c;
   works_on = StackWorksOn c;
 }

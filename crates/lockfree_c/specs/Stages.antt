@@ -1,11 +1,11 @@
 -- Where a pass is, and how a call leaves it.
-use Rattle.std.specs.Prelude.{◌≡◌, ℕ, Some, None, MatchOption}
+use Rattle.std.specs.Prelude.{◌≡◌, ℕ, ◌+◌, Some, None, MatchOption}
 use Rattle.bounded_model.specs.declared.answers.Stepped.{Stepped}
 use Rattle.bounded_model.specs.declared.answers.Stepped.TheVariants as stepped
 use Rattle.bounded_model.specs.declared.commands.Command.{Command}
 use Rattle.bounded_model.specs.declared.commands.Reply.{Reply}
 use Rattle.bounded_model.specs.declared.views.PassView.{PassView}
-use Rattle.lockfree_c.specs.Calls.{Reading, MakesSome, Tried, TriedFrom, TookAtLeast, TookFor}
+use Rattle.lockfree_c.specs.Calls.{Reading, MakesSome, Tried, TriedFrom, TookAtLeast, TookAtMost, TookFor}
 use Rattle.lockfree_c.specs.Codes.{Says, SaysWork, bare, saying, number_in, work_number}
 use Rattle.lockfree_c.specs.declared.answers.Answer.{Answer}
 use Rattle.lockfree_c.specs.declared.answers.TheConstants.{OK, BUSY, UNDER_WAY, NO_CALL, OTHER_HANDLE, VALUE}
@@ -59,9 +59,9 @@ module _ {P O W : Type 0} where
     abbrev pub IsStage : Stage P O W → Type 0
     IsStage s = MatchOption s.resting (IsUnderWay s.under_way) (λ by. r.is_pass by × (s.under_way ≡ Nothing))
 
-    -- a call that was begun as its pass was is tried: for at least n steps, if it does not end
+    -- a call that was begun as its pass was is tried: for at least n steps, if it does not end, and for at most n after those that it makes at once
     abbrev pub Tries : ℕ → PassView ℕ → Command ℕ → Stage P O W → Answer → Type 0
-    Tries n begun call t a = (made : Stepped O P (Reply ℕ)) × TriedFrom r begun call made × TookAtLeast r n begun made × LeftBy made t a
+    Tries n begun call t a = (made : Stepped O P (Reply ℕ)) × TriedFrom r begun call made × TookAtLeast r n begun made × TookAtMost r (r.at_once call + n) begun made × LeftBy made t a
 
     -- a call that is under way is tried further, whichever it is: for n steps, or to its end
     abbrev pub TriesOn : ℕ → O → Stage P O W → Answer → Type 0

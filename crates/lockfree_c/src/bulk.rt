@@ -15,7 +15,7 @@ ghost use Rattle.lockfree_c.specs.Bulk.{
   front_from,
 };
 ghost use Rattle.lockfree_c.specs.Passes.{IsPass};
-ghost use Rattle.lockfree_c.specs.Stacks.{CopyTried, RangeTried, stack_reading};
+ghost use Rattle.lockfree_c.specs.Stacks.{Copied, RangePutBy, stack_reading};
 
 use crate::answers::{Answer, EMPTY, NO_MEMORY, OK, UNDER_WAY};
 use crate::calls::{StackWork, copy_on, fold_on, range_on};
@@ -47,7 +47,7 @@ fn copy(
     tries: u64,
 ) -> Worked<StackWork, Pass<u64>>
     requires { IsPassOf stack.now by }
-    ensures { CopyTried stack.now values.now (pass_in by) result }
+    ensures { Copied stack.now tries values.now (pass_in by) result }
 {
     match stack.begin_copies(by, values) {
         Stepped::Again(op) => copy_on(stack, op, values, tries),
@@ -65,7 +65,7 @@ fn range(
     requires by { IsPassOf stack.now by }
     requires values { Every (λ place. IsSome place) values.items }
     ensures { (vs : List ℕ) × (values.items ≡ map Some vs)
-        × ((left : List (Option ℕ)) × RangeTried stack.now vs (pass_in by) left result) }
+        × RangePutBy stack.now tries vs (pass_in by) result }
 {
     match stack.begin_range(by, &values) {
         Stepped::Again(op) => range_on(stack, op, values, tries),
@@ -79,7 +79,7 @@ impl StackPass {
     pub fn fold(&mut self, reversed: bool, tries: u64) -> Answer
         requires { IsPass stack_reading self.old }
         ensures of { IsPass stack_reading self.new }
-        ensures gives { PassFolded self.old (front_from reversed) self.new result }
+        ensures gives { PassFolded tries self.old (front_from reversed) self.new result }
     {
         match self.stage.resting.take() {
             Some(by) => {
@@ -142,7 +142,7 @@ impl StackPass {
     pub fn put_range(&mut self, tries: u64) -> Answer
         requires { IsPass stack_reading self.old }
         ensures of { IsPass stack_reading self.new }
-        ensures gives { PassRangePut self.old self.new result }
+        ensures gives { PassRangePut tries self.old self.new result }
     {
         match mem::replace(&mut self.stage.under_way, UnderWay::Nothing) {
             UnderWay::Nothing => Answer::of(EMPTY),
@@ -163,7 +163,7 @@ impl StackPass {
         requires pass { IsPass stack_reading self.old }
         requires same { Continues self.old values.now }
         ensures of { IsPass stack_reading self.new }
-        ensures gives { PassCopied self.old values.now self.new result }
+        ensures gives { PassCopied tries self.old values.now self.new result }
     {
         if let Some(by) = self.stage.resting.take() {
             let made = copy(&self.container, by, values, tries);

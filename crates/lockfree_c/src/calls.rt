@@ -11,6 +11,7 @@ ghost use Rattle.lockfree_c.specs.Calls.{
   Tried,
   TriedFrom,
   TookAtLeast,
+  TookAtMost,
   TookFor,
   steps_of,
 };
@@ -59,8 +60,8 @@ pub trait BoundedCalls: Drop {
     /// How its root, its passes, its calls and its works are read.
     ghost reading: { Self → Reading Self.Root Self.Pass Self.Operation Self.Work };
 
-    /// What some steps of a gauge give that its pass began as this.
-    ghost gauges: { Self → PassView ℕ → Worked Self.Work Self.Pass → Type 0 };
+    /// What a gauge gives that its pass began as this, after this number of tries.
+    ghost gauges: { Self → ℕ → PassView ℕ → Worked Self.Work Self.Pass → Type 0 };
 
     /// The container's `split`: a pass, or `None` if the largest number of passes is out.
     fn split_off(&self, parent: &mut Self::Root) -> Option<Self::Pass>
@@ -100,19 +101,25 @@ pub trait BoundedCalls: Drop {
     ) -> Stepped<Self::Operation, Self::Pass, Reply<u64>>
         requires { (reading self.now).is_pass by }
         ensures tried { TriedFrom (reading self.now) ((reading self.now).pass by) (Put value) result }
-        ensures took { TookAtLeast (reading self.now) 0 ((reading self.now).pass by) result };
+        ensures took { TookAtLeast (reading self.now) 0 ((reading self.now).pass by) result }
+        ensures most { TookAtMost (reading self.now) ((reading self.now).at_once (Put value))
+            ((reading self.now).pass by) result };
 
     /// A take's fast path.
     fn take_at_once(&self, by: Self::Pass) -> Stepped<Self::Operation, Self::Pass, Reply<u64>>
         requires { (reading self.now).is_pass by }
         ensures tried { TriedFrom (reading self.now) ((reading self.now).pass by) Take result }
-        ensures took { TookAtLeast (reading self.now) 0 ((reading self.now).pass by) result };
+        ensures took { TookAtLeast (reading self.now) 0 ((reading self.now).pass by) result }
+        ensures most { TookAtMost (reading self.now) ((reading self.now).at_once Take)
+            ((reading self.now).pass by) result };
 
     /// A look's fast path.
     fn look_at_once(&self, by: Self::Pass) -> Stepped<Self::Operation, Self::Pass, Reply<u64>>
         requires { (reading self.now).is_pass by }
         ensures tried { TriedFrom (reading self.now) ((reading self.now).pass by) Look result }
-        ensures took { TookAtLeast (reading self.now) 0 ((reading self.now).pass by) result };
+        ensures took { TookAtLeast (reading self.now) 0 ((reading self.now).pass by) result }
+        ensures most { TookAtMost (reading self.now) ((reading self.now).at_once Look)
+            ((reading self.now).pass by) result };
 
     /// Continues a call for the steps of this number of tries. If it is still under way then, it
     /// was begun as before and has made exactly these steps more. If it has ended, it has made at
@@ -138,23 +145,23 @@ pub trait BoundedCalls: Drop {
     fn work_on(&self, work: Self::Work, tries: u64) -> Worked<Self::Work, Self::Pass>
         requires { (reading self.now).is_work work }
         ensures of { IsWorked (reading self.now) result }
-        ensures gives { (reading self.now).works_on work result };
+        ensures gives { (reading self.now).works_on tries work result };
 
     /// Gauges the container, for the steps of this number of tries.
     fn gauge_for(&self, by: Self::Pass, tries: u64) -> Worked<Self::Work, Self::Pass>
         requires { (reading self.now).is_pass by }
         ensures of { IsWorked (reading self.now) result }
-        ensures gives { gauges self.now ((reading self.now).pass by) result };
+        ensures gives { gauges self.now tries ((reading self.now).pass by) result };
 }
 
 /// A container that can be counted.
 pub trait Counts: BoundedCalls {
-    /// What some steps of a count give that its pass began as this.
-    ghost counts: { Self → PassView ℕ → Worked Self.Work Self.Pass → Type 0 };
+    /// What a count gives that its pass began as this, after this number of tries.
+    ghost counts: { Self → ℕ → PassView ℕ → Worked Self.Work Self.Pass → Type 0 };
 
     /// Counts the values, for the steps of this number of tries.
     fn count_for(&self, by: Self::Pass, tries: u64) -> Worked<Self::Work, Self::Pass>
         requires { (Self.reading self.now).is_pass by }
         ensures of { IsWorked (Self.reading self.now) result }
-        ensures gives { counts self.now ((Self.reading self.now).pass by) result };
+        ensures gives { counts self.now tries ((Self.reading self.now).pass by) result };
 }

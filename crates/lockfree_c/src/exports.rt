@@ -145,7 +145,7 @@ pub extern "C" fn lockfree_look(pass: &mut Slot, tries: u64) -> Answer
 pub extern "C" fn lockfree_count(pass: &mut Slot, tries: u64) -> Answer
     requires { IsSlot pass.old }
     ensures of { IsSlot pass.new }
-    ensures gives { SlotCounted pass.old pass.new result }
+    ensures gives { SlotCounted tries pass.old pass.new result }
 {
     if !pass.full {
         return Answer::of(NO_HANDLE);
@@ -159,7 +159,7 @@ pub extern "C" fn lockfree_count(pass: &mut Slot, tries: u64) -> Answer
 pub extern "C" fn lockfree_gauge(pass: &mut Slot, tries: u64) -> Answer
     requires { IsSlot pass.old }
     ensures of { IsSlot pass.new }
-    ensures gives { SlotGauged pass.old pass.new result }
+    ensures gives { SlotGauged tries pass.old pass.new result }
 {
     if !pass.full {
         return Answer::of(NO_HANDLE);
@@ -173,7 +173,7 @@ pub extern "C" fn lockfree_gauge(pass: &mut Slot, tries: u64) -> Answer
 pub extern "C" fn lockfree_fold(pass: &mut Slot, reversed: bool, tries: u64) -> Answer
     requires { IsSlot pass.old }
     ensures of { IsSlot pass.new }
-    ensures gives { SlotFolded pass.old (front_from reversed) pass.new result }
+    ensures gives { SlotFolded tries pass.old (front_from reversed) pass.new result }
 {
     if !pass.full {
         return Answer::of(NO_HANDLE);
@@ -201,7 +201,7 @@ pub extern "C" fn lockfree_range_add(alloc: Global, pass: &mut Slot, value: u64)
 pub extern "C" fn lockfree_range_put(pass: &mut Slot, tries: u64) -> Answer
     requires { IsSlot pass.old }
     ensures of { IsSlot pass.new }
-    ensures gives { SlotRangePut pass.old pass.new result }
+    ensures gives { SlotRangePut tries pass.old pass.new result }
 {
     if !pass.full {
         return Answer::of(NO_HANDLE);
@@ -216,7 +216,7 @@ pub extern "C" fn lockfree_put_range(pass: &mut Slot, values: &[u64], tries: u64
     requires slot { IsSlot pass.old }
     requires same { SlotContinues pass.old values.now }
     ensures of { IsSlot pass.new }
-    ensures gives { SlotCopied pass.old values.now pass.new result }
+    ensures gives { SlotCopied tries pass.old values.now pass.new result }
 {
     if !pass.full {
         return Answer::of(NO_HANDLE);

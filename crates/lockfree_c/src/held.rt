@@ -150,7 +150,7 @@ impl Held {
     pub fn gauge(&mut self, tries: u64) -> Answer
         requires { IsHeld self.old }
         ensures of { IsHeld self.new }
-        ensures gives { HeldGauged self.old self.new result }
+        ensures gives { HeldGauged tries self.old self.new result }
     {
         of_pass!(self, pass => pass.gauge(tries))
     }
@@ -175,7 +175,7 @@ impl Held {
     pub fn count(&mut self, tries: u64) -> Answer
         requires { IsHeld self.old }
         ensures of { IsHeld self.new }
-        ensures gives { HeldCounted self.old self.new result }
+        ensures gives { HeldCounted tries self.old self.new result }
     {
         match self {
             Held::Queue(Side::Pass(pass)) => pass.count(tries),
@@ -188,7 +188,7 @@ impl Held {
     pub fn fold(&mut self, reversed: bool, tries: u64) -> Answer
         requires { IsHeld self.old }
         ensures of { IsHeld self.new }
-        ensures gives { HeldFolded self.old (front_from reversed) self.new result }
+        ensures gives { HeldFolded tries self.old (front_from reversed) self.new result }
     {
         match self {
             Held::Stack(Side::Pass(pass)) => pass.fold(reversed, tries),
@@ -212,7 +212,7 @@ impl Held {
     pub fn put_range(&mut self, tries: u64) -> Answer
         requires { IsHeld self.old }
         ensures of { IsHeld self.new }
-        ensures gives { HeldRangePut self.old self.new result }
+        ensures gives { HeldRangePut tries self.old self.new result }
     {
         match self {
             Held::Stack(Side::Pass(pass)) => pass.put_range(tries),
@@ -226,7 +226,7 @@ impl Held {
         requires held { IsHeld self.old }
         requires same { HeldContinues self.old values.now }
         ensures of { IsHeld self.new }
-        ensures gives { HeldCopied self.old values.now self.new result }
+        ensures gives { HeldCopied tries self.old values.now self.new result }
     {
         match self {
             Held::Stack(Side::Pass(pass)) => pass.put_copies(values, tries),

@@ -130,7 +130,7 @@ impl<C: BoundedCalls> PassOf<C, C::Pass, C::Operation, C::Work> {
     pub fn gauge(&mut self, tries: u64) -> Answer
         requires { IsPass C.reading self.old }
         ensures of { IsPass C.reading self.new }
-        ensures gives { PassBegan C.reading (C.gauges self.old.container.value)
+        ensures gives { PassBegan C.reading (C.gauges self.old.container.value tries)
             self.old self.new result }
     {
         match self.stage.resting.take() {
@@ -149,7 +149,7 @@ impl<C: BoundedCalls> PassOf<C, C::Pass, C::Operation, C::Work> {
     pub fn go_on(&mut self, tries: u64) -> Answer
         requires { IsPass C.reading self.old }
         ensures of { IsPass C.reading self.new }
-        ensures gives { PassWentOn C.reading (steps_of C.UNDISTURBED C.TO_EXCHANGE tries)
+        ensures gives { PassWentOn C.reading tries (steps_of C.UNDISTURBED C.TO_EXCHANGE tries)
             self.old self.new result }
     {
         match mem::replace(&mut self.stage.under_way, UnderWay::Nothing) {
@@ -169,7 +169,7 @@ impl<C: Counts> PassOf<C, C::Pass, C::Operation, C::Work> {
     pub fn count(&mut self, tries: u64) -> Answer
         requires { IsPass C.reading self.old }
         ensures of { IsPass C.reading self.new }
-        ensures gives { PassBegan C.reading (C.counts self.old.container.value)
+        ensures gives { PassBegan C.reading (C.counts self.old.container.value tries)
             self.old self.new result }
     {
         match self.stage.resting.take() {

@@ -52,7 +52,7 @@ module _ {T : Type 0} where
 
 module _ {T L : Type 0} where
   knows_later : (h k : List (Event T)) (v : View T L) → Knows h v → Later h k → ((x : ℕ) → Owns v x → own x k ≡ own x h) → Knows k v
-  knows_later h k (AtRoot r heard l) f later same = record {
+  knows_later h k (AtRoot r ks heard l) f later same = record {
     seen = Later-trans f.seen later;
     heard_seen = Later-trans f.heard_seen later;
     joined = account_later h k r.account f.joined (λ x j. same x (inr j));
@@ -69,26 +69,26 @@ module _ {T L : Type 0} where
 
   -- how a cut shares out the numbers
   pub left_owns : (sh : Shares L) (v : View T L) (x : ℕ) → Owns (left_of sh v) x → Owns v x
-  left_owns sh (AtRoot r heard l) x (inl le) = inl (omega arith)
-  left_owns sh (AtRoot r heard l) x (inr j) = inr j
+  left_owns sh (AtRoot r ks heard l) x (inl le) = inl (omega arith)
+  left_owns sh (AtRoot r ks heard l) x (inr j) = inr j
   left_owns sh (AtMeeting p xs k q ys l) x o = inl o
   left_owns sh v x o = o
 
   pub right_owns : (sh : Shares L) (v : View T L) (x : ℕ) → Owns (right_of sh v) x → Owns v x
-  right_owns sh (AtRoot r heard l) x o = inl (omega arith)
+  right_owns sh (AtRoot r ks heard l) x o = inl (omega arith)
   right_owns sh (AtPass p begun l) x o = absurd o
   right_owns sh (AtMeeting p xs k q ys l) x o = inr o
   right_owns sh (AtHearing p xs l told) x o = absurd o
   right_owns sh v x o = o
 
   halves_apart : (sh : Shares L) (h : List (Event T)) (v : View T L) → Knows h v → (x : ℕ) → Owns (left_of sh v) x → Owns (right_of sh v) x → ⊥
-  halves_apart sh h (AtRoot r heard l) f x (inl le) e = omega arith
-  halves_apart sh h (AtRoot r heard l) f x (inr j) e = let l = joined-below r.given x r.account f.given j in omega arith
+  halves_apart sh h (AtRoot r ks heard l) f x (inl le) e = omega arith
+  halves_apart sh h (AtRoot r ks heard l) f x (inr j) e = let l = joined-below r.given x r.account f.given j in omega arith
   halves_apart sh h (AtMeeting p xs k q ys l) f x o e = f.2 (sym o ∙ e)
   halves_apart sh h v f x o e = e
 
   left_knows : (sh : Shares L) (h : List (Event T)) (v : View T L) → Knows h v → Knows h (left_of sh v)
-  left_knows sh h (AtRoot r heard l) f = record { seen = f.seen; heard_seen = f.heard_seen; joined = f.joined; apart = f.apart; given = below_more r.given r.account f.given; unknown = λ x le. f.unknown x (omega arith); works = f.works }
+  left_knows sh h (AtRoot r ks heard l) f = record { seen = f.seen; heard_seen = f.heard_seen; joined = f.joined; apart = f.apart; given = below_more r.given r.account f.given; unknown = λ x le. f.unknown x (omega arith); works = f.works }
   left_knows sh h (AtPass p begun l) f = f
   left_knows sh h (AtMeeting p xs k q ys l) f = f.0
   left_knows sh h (AtNote told) f = f
@@ -96,7 +96,7 @@ module _ {T L : Type 0} where
   left_knows sh h Left f = tt
 
   right_knows : (sh : Shares L) (h : List (Event T)) (v : View T L) → Knows h v → Knows h (right_of sh v)
-  right_knows sh h (AtRoot r heard l) f = record { seen = f.seen; own_events = f.unknown r.given (omega arith) ∙ sym (own-earlier r.given f.seen (f.unknown r.given (omega arith))) }
+  right_knows sh h (AtRoot r ks heard l) f = record { seen = f.seen; own_events = f.unknown r.given (omega arith) ∙ sym (own-earlier r.given f.seen (f.unknown r.given (omega arith))) }
   right_knows sh h (AtPass p begun l) f = f.seen
   right_knows sh h (AtMeeting p xs k q ys l) f = f.1
   right_knows sh h (AtNote told) f = f
@@ -105,14 +105,14 @@ module _ {T L : Type 0} where
 
   -- and a union puts them together
   pub both_owns : (sh : Shares L) (v w : View T L) (x : ℕ) → Owns (both_of sh v w) x → Owns v x ⊎ Owns w x
-  both_owns sh (AtRoot r heard l) (AtPass p begun k) x (inl le) = inl (inl le)
-  both_owns sh (AtRoot r heard l) (AtPass p begun k) x (inr (inl e)) = inr e
-  both_owns sh (AtRoot r heard l) (AtPass p begun k) x (inr (inr j)) = inl (inr j)
+  both_owns sh (AtRoot r ks heard l) (AtPass p begun k) x (inl le) = inl (inl le)
+  both_owns sh (AtRoot r ks heard l) (AtPass p begun k) x (inr (inl e)) = inr e
+  both_owns sh (AtRoot r ks heard l) (AtPass p begun k) x (inr (inr j)) = inl (inr j)
   both_owns sh (AtPass p begun l) (AtPass q begun' l') x o = o
   both_owns sh v w x o = inl o
 
   both_knows : (sh : Shares L) (h : List (Event T)) (v w : View T L) → Knows h v → Knows h w → ((x : ℕ) → Owns v x → Owns w x → ⊥) → Knows h (both_of sh v w)
-  both_knows sh h (AtRoot r heard l) (AtPass p begun k) f g off = takes_back_rooted h r heard p f g (λ o. off p.number o refl)
+  both_knows sh h (AtRoot r ks heard l) (AtPass p begun k) f g off = takes_back_rooted h r heard.seen p f g (λ o. off p.number o refl)
   both_knows sh h (AtPass p begun l) (AtPass q begun' l') f g off = (f, g, λ e. off p.number refl e)
   both_knows sh h (AtPass p begun l) (AtNote told) f g off = (f, g)
   both_knows sh h v w f g off = f
@@ -164,13 +164,13 @@ module _ {T L : Type 0} (c : Shape) (held : L → ℕ) where
 
   -- the passes that a cut gives have nothing in hand
   abbrev pub EmptyParts : Shares L → View T L → Type 0
-  EmptyParts sh (AtRoot r heard l) = held (sh.gives l).1 ≡ 0
+  EmptyParts sh (AtRoot r ks heard l) = held (sh.gives l).1 ≡ 0
   EmptyParts sh (AtMeeting p xs k q ys l) = (held k ≡ 0) × (held l ≡ 0)
   EmptyParts sh (AtHearing p xs l told) = held l ≡ 0
   EmptyParts sh v = Unit {0}
 
   left_holds : (sh : Shares L) (v : View T L) → EmptyParts sh v → held_at held v ≡ held_at held (left_of sh v)
-  left_holds sh (AtRoot r heard l) e = refl
+  left_holds sh (AtRoot r ks heard l) e = refl
   left_holds sh (AtPass p begun l) e = refl
   left_holds sh (AtMeeting p xs k q ys l) e = sym e.0
   left_holds sh (AtNote told) e = refl
@@ -178,7 +178,7 @@ module _ {T L : Type 0} (c : Shape) (held : L → ℕ) where
   left_holds sh Left e = refl
 
   right_holds : (sh : Shares L) (v : View T L) (x : ℕ) → EmptyParts sh v → Owns (right_of sh v) x → held_at held v ≡ held_at held (right_of sh v)
-  right_holds sh (AtRoot r heard l) x e o = sym e
+  right_holds sh (AtRoot r ks heard l) x e o = sym e
   right_holds sh (AtPass p begun l) x e o = absurd o
   right_holds sh (AtMeeting p xs k q ys l) x e o = sym e.1
   right_holds sh (AtNote told) x e o = refl
@@ -198,8 +198,8 @@ module _ {T L : Type 0} (c : Shape) (held : L → ℕ) where
       (at_set views id j (left_of sh v) u e))
 
   both_holds : (sh : Shares L) (v w : View T L) → held_at held v ≡ 0 → 0 ≡ held_at held (both_of sh v w)
-  both_holds sh (AtRoot r heard l) (AtPass p begun k) e = refl
-  both_holds sh (AtPass p begun l) (AtRoot s heard l') e = sym e
+  both_holds sh (AtRoot r ks heard l) (AtPass p begun k) e = refl
+  both_holds sh (AtPass p begun l) (AtRoot s ks heard l') e = sym e
   both_holds sh (AtPass p begun l) (AtMeeting q xs k q' ys l') e = sym e
   both_holds sh (AtPass p begun l) (AtHearing q xs l' told) e = sym e
   both_holds sh (AtPass p begun l) Left e = sym e

@@ -27,10 +27,18 @@ pub struct Begun<T, L> {
     pub now: LinkedList<(u64, Doing<L>)>,
 }
 
+/// What is handed on to a root or by a note: a history that a pass had seen, and the acts that it
+/// kept then, the newest first.
+pub struct Handed<T, L> {
+    pub seen: LinkedList<Event<T>>,
+    pub acts: LinkedList<(u64, Doing<L>)>,
+}
+
 /// What one seat knows. `L` is where a pass of this container is between two steps.
 pub enum View<T, L> {
-    /// The root, what the pass that it has just joined had seen, and its line.
-    AtRoot(RootView<T>, LinkedList<Event<T>>, L),
+    /// The root, what it knows of the acts, what the pass that it has just joined hands on, and its
+    /// line.
+    AtRoot(RootView<T>, LinkedList<(u64, Doing<L>)>, Handed<T, L>, L),
     /// A pass: as it is, what it knew as its operation was begun, and its line.
     AtPass(PassView<T>, Begun<T, L>, L),
     /// Two passes that meet in one seat, each with what it knew of the acts at its last step, and its
@@ -43,10 +51,10 @@ pub enum View<T, L> {
         LinkedList<(u64, Doing<L>)>,
         L,
     ),
-    /// A note: what its pass had seen when it was made.
-    AtNote(LinkedList<Event<T>>),
+    /// A note: what its pass had seen, and kept of the acts, when it was made.
+    AtNote(Handed<T, L>),
     /// A pass that hears a note, what it knew of the acts at its last step, and its line.
-    AtHearing(PassView<T>, LinkedList<(u64, Doing<L>)>, L, LinkedList<Event<T>>),
+    AtHearing(PassView<T>, LinkedList<(u64, Doing<L>)>, L, Handed<T, L>),
     /// A seat that was joined to another.
     Left,
 }

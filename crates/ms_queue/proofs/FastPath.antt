@@ -1,8 +1,13 @@
 -- Some steps of an operation after others, where the operation went on.
-use Rattle.std.proofs.Common.{◌≡◌, ℕ, Bool}
+use Rattle.std.proofs.Common.{◌≡◌, ℕ, ◌≤◌, Bool}
+use Rattle.bounded_model.specs.declared.answers.Stepped.{Stepped}
+use Rattle.bounded_model.specs.declared.answers.Stepped.TheVariants.{Again, Done}
+use Rattle.bounded_model.specs.Stepping.{MatchStepped}
 use Rattle.queue_machine.specs.declared.lines.Line.{Line}
 use Rattle.queue_table.specs.declared.operation.Operation.{Operation}
-use Rattle.running.specs.Passes.{begun_of}
+use Rattle.running.specs.declared.kept.PassWith.{PassWith}
+use Rattle.running.specs.declared.op.Op.{Op}
+use Rattle.running.specs.Passes.{Since, pass_in}
 use Rattle.running.specs.declared.passes.Pass.{Pass}
 use Rattle.running.specs.declared.code.Next.{Next}
 use Rattle.running.proofs.Leading.{ran_on}
@@ -17,14 +22,21 @@ use Rattle.ms_queue.specs.Putting.{Answer as PutAnswer, PutRan, put_account}
 use Rattle.ms_queue.specs.Taking.{Answer as TakeAnswer, TakeRan, take_account}
 
 module _ {T : Type 0} (c : Queue T) (o : Operation T) (p q t : Pass T (Line T)) where
-  pub put_after : begun_of (machine_of c) q ≡ begun_of (machine_of c) p → (r : Next (PutAt T) (PutAnswer T)) → PutRan c o q t r → PutRan c o p t r
-  put_after begun r ran = ran_on (machine_of c) (put_account c.table.shared.key) c.table.shared.table_id o p q t begun r ran
+  pub put_after : Since (machine_of c) p q → (r : Next (PutAt T) (PutAnswer T)) → PutRan c o q t r → PutRan c o p t r
+  put_after since r ran = ran_on (machine_of c) (put_account c.table.shared.key) c.table.shared.table_id o p q t since r ran
 
-  pub take_after : begun_of (machine_of c) q ≡ begun_of (machine_of c) p → (r : Next (TakeAt T) (TakeAnswer T)) → TakeRan c o q t r → TakeRan c o p t r
-  take_after begun r ran = ran_on (machine_of c) (take_account c.table.shared.key) c.table.shared.table_id o p q t begun r ran
+  pub take_after : Since (machine_of c) p q → (r : Next (TakeAt T) (TakeAnswer T)) → TakeRan c o q t r → TakeRan c o p t r
+  take_after since r ran = ran_on (machine_of c) (take_account c.table.shared.key) c.table.shared.table_id o p q t since r ran
 
-  pub look_after : begun_of (machine_of c) q ≡ begun_of (machine_of c) p → (r : Next LookAt (Answered Bool)) → LookRan c o q t r → LookRan c o p t r
-  look_after begun r ran = ran_on (machine_of c) (look_account c.table.shared.key) c.table.shared.table_id o p q t begun r ran
+  pub look_after : Since (machine_of c) p q → (r : Next LookAt (Answered Bool)) → LookRan c o q t r → LookRan c o p t r
+  look_after since r ran = ran_on (machine_of c) (look_account c.table.shared.key) c.table.shared.table_id o p q t since r ran
 
-  pub len_after : begun_of (machine_of c) q ≡ begun_of (machine_of c) p → (r : Next LenAt (Answered ℕ)) → LenRan c o q t r → LenRan c o p t r
-  len_after begun r ran = ran_on (machine_of c) (len_account c.table.shared.key) c.table.shared.table_id o p q t begun r ran
+  pub len_after : Since (machine_of c) p q → (r : Next LenAt (Answered ℕ)) → LenRan c o q t r → LenRan c o p t r
+  len_after since r ran = ran_on (machine_of c) (len_account c.table.shared.key) c.table.shared.table_id o p q t since r ran
+
+-- A call that is left after its first steps has made no others
+module _ {T L O S K A : Type 0} (first : Pass T L) (n : ℕ) (most : (pass_in first).steps ≤ n) where
+  pub at_most : (made : Stepped (Op T L O S) (PassWith T L K) A) → MatchStepped made (λ op. pass_in op.pass ≡ pass_in first) (λ back answer. pass_in back.pass ≡ pass_in first)
+      → MatchStepped made (λ op. (pass_in op.pass).steps ≤ n) (λ back answer. (pass_in back.pass).steps ≤ n)
+  at_most (Again op) same = rw same most
+  at_most (Done back answer) same = rw same most

@@ -49,9 +49,6 @@ impl<T> Queue<T> {
 }
 
 impl<T: Drop + Send> Stepwise<T> for Queue<T> {
-    ghost use Rattle.std.specs.Prelude.{◌≡◌};
-    ghost use Rattle.bounded_model.specs.Stepping.{no_step};
-    ghost use Rattle.ms_queue.specs.Queue.{IsPassOf, pass_in};
     ghost use Rattle.ms_queue.specs.Stepwise.{IsMakingCall, making};
 
     type Op = AnyOp<T>;
@@ -61,12 +58,28 @@ impl<T: Drop + Send> Stepwise<T> for Queue<T> {
     ghost making = { making };
 
     #[inline(always)]
-    fn begin(&self, by: Pass<T>, command: Command<T>) -> AnyOp<T>
-        requires { IsPassOf self.now by }
-        ensures call { IsMakingCall self.now command result }
-        ensures begun { making result ≡ no_step (pass_in by) }
-    {
-        self.begin(by, command)
+    fn begin_put(&self, by: Pass<T>, value: T) -> AnyOp<T> {
+        self.begin(by, Command::Put(value))
+    }
+
+    #[inline(always)]
+    fn begin_take(&self, by: Pass<T>) -> AnyOp<T> {
+        self.begin(by, Command::Take)
+    }
+
+    #[inline(always)]
+    fn begin_close(&self, by: Pass<T>) -> AnyOp<T> {
+        self.begin(by, Command::Close)
+    }
+
+    #[inline(always)]
+    fn begin_shut(&self, by: Pass<T>) -> AnyOp<T> {
+        self.begin(by, Command::Shut)
+    }
+
+    #[inline(always)]
+    fn begin_look(&self, by: Pass<T>) -> AnyOp<T> {
+        self.begin(by, Command::Look)
     }
 
     #[inline]

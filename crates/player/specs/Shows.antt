@@ -13,7 +13,8 @@ use Rattle.bounded_model.specs.Stepping.{GoesOn, MatchStepped, OneStep, Underway
 use Rattle.player.specs.declared.place.Place.{Place}
 use Rattle.player.specs.declared.place.Place.TheVariants as place
 use Rattle.player.specs.declared.stage.Stage.{Stage}
-use Rattle.player.specs.Plays.{Meaning, Nobody, Resting, Acting, World, Finds, named, renamed, steps_since}
+use Rattle.player.specs.Plays.{IsFit, Meaning, Nobody, Resting, Acting, World, Finds, named, renamed, steps_since}
+use Rattle.script.specs.declared.line.Act.{Act}
 
 -- how a container's roots, passes and operations are read
 pub record Reading (R P O : Type 0) : Type 1 where
@@ -65,9 +66,10 @@ pub record IsOn {R P O : Type 0} (r : Reading R P O) (stage : Stage R P O) (worl
   pub root : world.root ≡ r.root stage.root
   pub names : ShowsAll r stage.places.of.items world.names
 
--- a stage of this container
-abbrev pub IsStage : {C R P N L O : Type 0} → container.Ghosts C (List ℕ) R P N L → stepwise.Ghosts C (List ℕ) O R P N L → C → Stage R P O → Type 0
-IsStage k s c stage = (world : World) × IsOn (reading_of k s c) stage world
+-- the pass of this letter can do this on a stage of this container
+pub record CanAct {C R P N L O : Type 0} (k : container.Ghosts C (List ℕ) R P N L) (s : stepwise.Ghosts C (List ℕ) O R P N L) (c : C) (stage : Stage R P O) (letter : ℕ) (act : Act) : Type 0 where
+  pub on : (world : World) × IsOn (reading_of k s c) stage world
+  pub fit : IsFit (k.shape c).order letter act
 
 -- a letter was looked for: what it names was taken out of its place
 pub record Found {R P O : Type 0} (r : Reading R P O) (world : World) (letter : ℕ) (stage : Stage R P O) (place : Place P O) : Type 0 where

@@ -14,7 +14,7 @@ ghost use Rattle.script.specs.declared.line.PassName.{PassName};
 use crate::place::{Begun, Place};
 use crate::ranges::Ranges;
 use crate::trace::{MadeStep, Trace};
-use bounded_model::{Command, Reply, Stepped};
+use bounded_model::{Command, Reply, Stepped, begin};
 use script::{Act, Answer, Value};
 use std::alloc::{AllocError, Global};
 use std::sync::Wait;
@@ -87,7 +87,7 @@ fn act_resting<'a, G: Ranges<'a, C>, C: Named<Value<'a>>, R: Wait>(
             Ok((Place::Resting(pass), Answer::Call(reply)))
         }
         Act::Begin(command) => {
-            let operation = container.begin(pass, command);
+            let operation = begin(container, pass, command);
             let begun = Begun {
                 operation,
                 steps: 0,
@@ -134,7 +134,7 @@ fn make_call<'a, C: Named<Value<'a>>, R: Wait>(
     if !trace.is_kept() {
         return Ok(call_whole(container, rt, by, command));
     }
-    let mut operation = container.begin(by, command);
+    let mut operation = begin(container, by, command);
     let mut made: u64 = 0;
     for _ in rt.forever() {
         made = made.saturating_add(1);

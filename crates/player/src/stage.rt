@@ -2,8 +2,8 @@
 
 ghost use Rattle.std.specs.Prelude.{◌≡◌, ◌≢◌, ◌-◌, if◌then◌else◌, List, IsTrue, IfOk, slice_set};
 ghost use Rattle.std.specs.Char.{is_ascii_lowercase};
-ghost use Rattle.player.specs.Plays.{Acts, Does, DoesMeet, Ends, IsFit, IsFor, JoinsAll, JoinsOne, MeetTold, Meaning, World, start};
-ghost use Rattle.player.specs.Shows.{Found, IsOn, IsStage, Shows, ShowsAll, reading_of};
+ghost use Rattle.player.specs.Plays.{Acts, Does, DoesMeet, Ends, IsFor, JoinsAll, JoinsOne, MeetTold, Meaning, World};
+ghost use Rattle.player.specs.Shows.{CanAct, Found, IsOn, Shows, ShowsAll, reading_of};
 ghost use Rattle.player.specs.Traces.{ActsTraced, AreKept, DoesTraced, IsFound, IsKept, Traces, held_by};
 ghost use Rattle.player.specs.declared.place.Place.TheVariants.{Nobody};
 ghost use Rattle.script.specs.declared.answer.Answer.TheVariants.{Met, NoPass};
@@ -96,8 +96,7 @@ pub fn act<'a, G: Ranges<'a, C>, C: Named<Value<'a>>, R: Wait>(
     act: Act<'a>,
     trace: &mut Trace,
 ) -> Result<Answer<'a>, AllocError>
-    requires { IsStage C.Container C.Stepwise.own container.now stage.old
-        × IsFit (C.shape container.now).order trace.old.pass.0 act }
+    requires { CanAct C.Container C.Stepwise.own container.now stage.old trace.old.pass.0 act }
     ensures acts { (world : World) → IsOn (reading_of C.Container C.Stepwise.own container.now)
         stage.old world → IfOk result (λ answer. (next : World)
         × IsOn (reading_of C.Container C.Stepwise.own container.now) stage.new next

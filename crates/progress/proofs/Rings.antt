@@ -15,7 +15,7 @@ use Rattle.running.specs.Going.{Going}
 use Rattle.running.specs.declared.passes.Pass.{Pass}
 use Rattle.runs.specs.Made.{HasMade}
 use Rattle.runs.proofs.Made.{some_made}
-use Rattle.progress.proofs.Courses.{Bounds, bounds, bounds_some}
+use Rattle.progress.proofs.Courses.{Bounds, BoundsMore, bounds, bounds_seen, bounds_some}
 use Rattle.progress.specs.Rings.{StepsAreBounded, IsOvertaken}
 
 module _ {T : Type 0} (c : RingQueue T) (o : Operation T) (p : Pass T (SeatLine T)) {begun : PassView T} {l : SeatLine T} (g : Going (machine_of c) o p.seat.me.0 begun l) where
@@ -42,6 +42,9 @@ module _ {T : Type 0} (c : RingQueue T) (o : Operation T) (p : Pass T (SeatLine 
   abbrev Bounded : ℕ → Type 0
   Bounded count = Bounds (machine_of c) p.seat.me.0 Bound since (λ first b. b.is) bound_so o count
 
+  abbrev More : ℕ → Type 0
+  More n = BoundsMore (machine_of c) p.seat.me.0 Bound since (λ first b. b.is) bound_so o n
+
   pub steps_so : StepsAreBounded c o p
   steps_so =
       let k = some_made (machine_of c) g in
@@ -56,3 +59,9 @@ module _ {T : Type 0} (c : RingQueue T) (o : Operation T) (p : Pass T (SeatLine 
   overtaken count w made more =
       let b : Bounded count = bounds_some (machine_of c) p.seat.me.0 Bound since (λ first b. b.is) bound_so g count made (omega (arith, more)) in
       record { rest = b.rest; since = b.bound.since; is = b.bound.is; wins = λ numbers low. (let most = b.bound.bound numbers low in omega (arith, most, b.steps, more)) }
+
+  -- after more steps than those, as the pass counts them, others have won
+  pub overtaken_seen : (w : ℕ) → begun.steps + (31 + 18 * w) < (pass_of p.seat.me.0).steps → IsOvertaken c o p w
+  overtaken_seen w more =
+      let b : More (31 + 18 * w) = bounds_seen (machine_of c) p.seat.me.0 Bound since (λ first b. b.is) bound_so g (λ peeks. peeks) (31 + 18 * w) more in
+      record { rest = b.rest; since = b.bound.since; is = b.bound.is; wins = λ numbers low. (let most = b.bound.bound numbers low in let m = b.more in omega (arith, most, m)) }

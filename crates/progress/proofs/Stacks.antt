@@ -6,7 +6,7 @@ use Rattle.machine.specs.Seats.{Acts, acts_before, acts_now, pass_of}
 use Rattle.stack_machine.specs.declared.lines.Line.{Line}
 use Rattle.stack_table.specs.declared.operation.Operation.{Operation}
 use Rattle.stack_table.specs.Core.{core}
-use Rattle.stack_table.specs.Lines.{first_line, names}
+use Rattle.stack_table.specs.Lines.{PutsMany, call_of, first_line, names}
 use Rattle.running.specs.Acts.{Course}
 use Rattle.running.specs.Going.{Going}
 use Rattle.running.specs.declared.passes.Pass.{Pass}
@@ -16,7 +16,7 @@ use Rattle.stack_runs.proofs.Stacks.{bounded}
 use Rattle.step_core.specs.stack.Bound.{IsSingle}
 use Rattle.runs.specs.Made.{HasMade}
 use Rattle.runs.proofs.Made.{some_made}
-use Rattle.progress.proofs.Courses.{Bounds, bounds, bounds_some}
+use Rattle.progress.proofs.Courses.{Bounds, BoundsMore, bounds, bounds_seen, bounds_some}
 use Rattle.progress.specs.Stacks.{StepsAreBounded, IsOvertaken}
 
 module _ {T : Type 0} (c : Stack T) (o : Operation T) (p : Pass T (Line T)) {begun : PassView T} {l : Line T} (g : Going (machine_of c) o p.seat.me.0 begun l) where
@@ -43,6 +43,9 @@ module _ {T : Type 0} (c : Stack T) (o : Operation T) (p : Pass T (Line T)) {beg
   abbrev Bounded : ℕ → Type 0
   Bounded count = Bounds (machine_of c) p.seat.me.0 Bound since (λ first b. b.is) bound_so o count
 
+  abbrev More : ℕ → Type 0
+  More n = BoundsMore (machine_of c) p.seat.me.0 Bound since (λ first b. b.is) bound_so o n
+
   pub steps_so : StepsAreBounded c o p
   steps_so =
       let k = some_made (machine_of c) g in
@@ -53,3 +56,9 @@ module _ {T : Type 0} (c : Stack T) (o : Operation T) (p : Pass T (Line T)) {beg
   overtaken single count w made more =
       let b : Bounded count = bounds_some (machine_of c) p.seat.me.0 Bound since (λ first b. b.is) bound_so g count made (omega (arith, more)) in
       record { since = b.bound.since; is = b.bound.is; wins = λ passes low. (let most = b.bound.single single passes low in omega (arith, most, b.steps, more)) }
+
+  -- after more steps than those, as the pass counts them, others have won
+  pub overtaken_seen : IsSingle (first_line o) → (PutsMany (call_of o) → ⊥) → (w : ℕ) → begun.steps + (9 + 4 * w) < (pass_of p.seat.me.0).steps → IsOvertaken c o p w
+  overtaken_seen single none w more =
+      let b : More (9 + 4 * w) = bounds_seen (machine_of c) p.seat.me.0 Bound since (λ first b. b.is) bound_so g none (9 + 4 * w) more in
+      record { since = b.bound.since; is = b.bound.is; wins = λ passes low. (let most = b.bound.single single passes low in let m = b.more in omega (arith, most, m)) }

@@ -5,7 +5,7 @@ use Rattle.bounded_model.specs.Laws.{NoneOut}
 use Rattle.bounded_model.specs.Stepping.{MatchStepped}
 use Rattle.bounded_model.specs.declared.views.RootView.{RootView}
 use Rattle.machine.specs.Progress.{others_win}
-use Rattle.machine.specs.Seats.{Acts, acts_before, acts_now}
+use Rattle.machine.specs.Seats.{Acts, Extends, acts_before, acts_now}
 use Rattle.queue_machine.specs.Answers.{shape}
 use Rattle.queue_machine.specs.Machine.{queue}
 use Rattle.queue_machine.specs.declared.lines.Line.{Line}
@@ -53,9 +53,10 @@ module _ {T : Type 0} (c : Queue T) (o : Operation T) (p : Pass T (Line T)) wher
 abbrev pub EndsOrOvertaken : {T S A : Type 0} → Queue T → Stepped (Op T (Line T) (Operation T) S) (QueuePass T) A → Type 0
 EndsOrOvertaken c made = MatchStepped made (λ next. IsOvertaken c next.operation next.pass 0) (λ back answer. Unit {0})
 
--- What is left stands for a run of the passes. Their calls are linearizable. If no pass is out, the passes together have made no more
+-- What is left stands for a run of the passes, which begins with the acts that the root kept. Their calls are linearizable. If no pass is out, the passes together have made no more
 -- steps than their calls cost
-pub record IsPaidRun {T : Type 0} (c : Queue T) (r : RootView T) (left : List T) : Type 0 where
+pub record IsPaidRun {T : Type 0} (c : Queue T) (kept : Acts (Line T)) (r : RootView T) (left : List T) : Type 0 where
   pub run : IsRun (machine_of c) r left
+  pub extends : Extends kept run.acts
   pub linearizable : IsLinearizable names (core T (room_of c) (limit_of c)) call_at answer (object (room_of c) (limit_of c)) run.acts
   pub work : NoneOut r → TotalWork r run.acts

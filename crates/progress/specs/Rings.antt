@@ -5,7 +5,7 @@ use Rattle.bounded_model.specs.Laws.{NoneOut}
 use Rattle.bounded_model.specs.Stepping.{MatchStepped}
 use Rattle.bounded_model.specs.declared.views.RootView.{RootView}
 use Rattle.machine.specs.Progress.{others_win}
-use Rattle.machine.specs.Seats.{Acts, acts_before, acts_now}
+use Rattle.machine.specs.Seats.{Acts, Extends, acts_before, acts_now}
 use Rattle.ring_queue.specs.Ring.{RingQueue, Pass as RingPass, room_of, laps_of, passes_of, machine_of}
 use Rattle.ring_runs.specs.Bounded.{IsBounded, call_at, call_in, state_after}
 use Rattle.ring_runs.specs.Linearizable.{answer_at}
@@ -59,9 +59,10 @@ module _ {T : Type 0} (c : RingQueue T) (o : Operation T) (p : Pass T (SeatLine 
 abbrev pub EndsOrOvertaken : {T S A : Type 0} → RingQueue T → Stepped (Op T (SeatLine T) (Operation T) S) (RingPass T) A → Type 0
 EndsOrOvertaken c made = MatchStepped made (λ next. IsOvertaken c next.operation next.pass 0) (λ back answer. Unit {0})
 
--- What is left stands for a run of the passes. Their calls are linearizable. If no pass is out, the passes together have made no more
+-- What is left stands for a run of the passes, which begins with the acts that the root kept. Their calls are linearizable. If no pass is out, the passes together have made no more
 -- steps than their calls cost
-pub record IsPaidRun {T : Type 0} (c : RingQueue T) (r : RootView T) (left : List T) : Type 0 where
+pub record IsPaidRun {T : Type 0} (c : RingQueue T) (kept : Acts (SeatLine T)) (r : RootView T) (left : List T) : Type 0 where
   pub run : IsRun (machine_of c) r left
+  pub extends : Extends kept run.acts
   pub linearizable : IsLinearizable names (core T (room_of c) (laps_of c) (passes_of c)) call_in answer_at (object (room_of c) (laps_of c)) run.acts
   pub work : NoneOut r → TotalWork (passes_of c) r run.acts

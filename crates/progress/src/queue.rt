@@ -1,20 +1,23 @@
 //! The bound on the steps of a queue's operations.
-ghost use Rattle.std.specs.Prelude.{◌≤◌};
+ghost use Rattle.std.specs.Prelude.{ℕ, ◌+◌, ◌*◌, ◌<◌, ◌≤◌};
 ghost use Rattle.bounded_model.specs.Laws.{Leaves, NoneOut};
+ghost use Rattle.bounded_model.specs.declared.commands.Command.{Command};
 ghost use Rattle.ms_queue.specs.Closing.{IsClosing};
 ghost use Rattle.ms_queue.specs.Left.{left_in};
 ghost use Rattle.ms_queue.specs.Looking.{IsLooking};
 ghost use Rattle.ms_queue.specs.Putting.{IsPutting};
 ghost use Rattle.ms_queue.specs.Queue.{IsPassOf, IsRootOf, pass_in, root_in, shape_of};
 ghost use Rattle.ms_queue.specs.Shutting.{IsShutting};
+ghost use Rattle.ms_queue.specs.Stepwise.{IsMakingCall, making};
 ghost use Rattle.ms_queue.specs.Taking.{IsTaking};
 ghost use Rattle.ms_queue.specs.Trying.{PutTried, TakeTried};
 ghost use Rattle.queue_runs.specs.Work.{fee, others_of};
 ghost use Rattle.runs.specs.Work.{total_steps, total_fees};
-ghost use Rattle.progress.specs.Queues.{StepsAreBounded, EndsOrOvertaken, IsPaidRun};
+ghost use Rattle.progress.specs.Queues.{StepsAreBounded, EndsOrOvertaken, IsOvertaken, IsPaidRun};
+ghost use Rattle.running.specs.Kept.{acts_of_root};
 
 use bounded_model::{PutRefused, Stepped, TakeRefused};
-use ms_queue::{CloseOp, LookOp, Pass, PutOp, Queue, Rest, Root, ShutOp, TakeOp};
+use ms_queue::{AnyOp, CloseOp, LookOp, Pass, PutOp, Queue, Rest, Root, ShutOp, TakeOp};
 use runs::step_for;
 
 /// An operation that is still under way has made at most this many steps, and 8 more for each
@@ -57,7 +60,8 @@ pub fn take_or_overtaken<T: Drop>(
 pub fn end<T>(queue: Queue<T>, parent: Root<T>) -> Rest<T>
     requires { IsRootOf queue parent }
     ensures leaves { Leaves (shape_of queue) (root_in parent) (left_in result) }
-    ensures run { IsPaidRun queue (root_in parent) (left_in result) }
+    ensures run { IsPaidRun queue (acts_of_root parent) (root_in parent)
+        (left_in result) }
     ensures work { NoneOut (root_in parent) → let r = root_in parent in
         total_steps r.works ≤ total_fees (fee (others_of r)) r.works }
 {
@@ -105,6 +109,18 @@ pub fn shut_is_bounded<T>(queue: &Queue<T>, op: &ShutOp<T>)
 pub fn look_is_bounded<T>(queue: &Queue<T>, op: &LookOp<T>)
     requires { IsLooking queue.now op.now }
     ensures { StepsAreBounded queue.now op.now.operation op.now.pass }
+{
+    let _ = queue;
+    let _ = op;
+}
+
+/// A call of any kind that is under way, as a call from C is that has answered `BUSY`. If its pass has
+/// counted more than `ALONE + 8 * w` steps since the call was begun, then more than `w`
+/// compare-and-swaps of other passes have succeeded since.
+pub fn call_is_overtaken<T>(queue: &Queue<T>, op: &AnyOp<T>)
+    requires { (call : Command T) × IsMakingCall queue.now call op.now }
+    ensures { (w : ℕ) → (making op.now).begun.steps + (20 + 8 * w) < (making op.now).now.steps
+        → IsOvertaken queue.now op.now.operation op.now.pass w }
 {
     let _ = queue;
     let _ = op;

@@ -1,6 +1,7 @@
 //! The bound on the steps of a ring's operations.
-ghost use Rattle.std.specs.Prelude.{◌≡◌, ◌+◌, ◌-◌, ◌≤◌, ℕ};
+ghost use Rattle.std.specs.Prelude.{◌≡◌, ◌+◌, ◌-◌, ◌*◌, ◌<◌, ◌≤◌, ℕ};
 ghost use Rattle.bounded_model.specs.Laws.{Leaves, NoneOut};
+ghost use Rattle.bounded_model.specs.declared.commands.Command.{Command};
 ghost use Rattle.ring_machine.specs.Machine.{resting};
 ghost use Rattle.ring_queue.specs.Closing.{IsClosing, IsShutting};
 ghost use Rattle.ring_queue.specs.Counting.{IsCounting};
@@ -16,14 +17,18 @@ ghost use Rattle.ring_queue.specs.Ring.{
   shape_of,
 };
 ghost use Rattle.ring_queue.specs.Roots.{IsRootOf, root_in};
+ghost use Rattle.ring_queue.specs.Stepwise.{IsMakingCall, making};
 ghost use Rattle.ring_queue.specs.Taking.{IsTaking};
 ghost use Rattle.ring_queue.specs.Trying.{PutTried, TakeTried};
 ghost use Rattle.ring_runs.specs.Work.{fee};
 ghost use Rattle.runs.specs.Work.{total_steps, total_fees};
-ghost use Rattle.progress.specs.Rings.{EndsOrOvertaken, IsPaidRun, StepsAreBounded};
+ghost use Rattle.progress.specs.Rings.{EndsOrOvertaken, IsOvertaken, IsPaidRun, StepsAreBounded};
+ghost use Rattle.running.specs.Kept.{acts_of_root};
 
 use bounded_model::{PutRefused, Stepped, TakeRefused};
-use ring_queue::{CloseOp, LenOp, LookOp, Pass, PutOp, Rest, RingQueue, Root, ShutOp, TakeOp};
+use ring_queue::{
+    AnyOp, CloseOp, LenOp, LookOp, Pass, PutOp, Rest, RingQueue, Root, ShutOp, TakeOp,
+};
 use runs::step_for;
 
 /// An operation that is still under way has made at most this many steps, and 18 more for each
@@ -66,7 +71,8 @@ pub fn take_or_overtaken<T: Drop>(
 pub fn end<T>(ring: RingQueue<T>, parent: Root<T>) -> Rest<T>
     requires { IsRootOf ring parent }
     ensures leaves { Leaves (shape_of ring) (root_in parent) (left_in result) }
-    ensures run { IsPaidRun ring (root_in parent) (left_in result) }
+    ensures run { IsPaidRun ring (acts_of_root parent) (root_in parent)
+        (left_in result) }
     ensures work { NoneOut (root_in parent) → total_steps (root_in parent).works
         ≤ total_fees (fee (passes_of ring - 1)) (root_in parent).works }
 {
@@ -123,6 +129,18 @@ pub fn look_is_bounded<T>(ring: &RingQueue<T>, op: &LookOp<T>)
 pub fn len_is_bounded<T>(ring: &RingQueue<T>, op: &LenOp<T>)
     requires { IsCounting ring.now op.now }
     ensures { StepsAreBounded ring.now op.now.operation op.now.pass }
+{
+    let _ = ring;
+    let _ = op;
+}
+
+/// A call of any kind that is under way, as a call from C is that has answered `BUSY`. If its pass has
+/// counted more than `ALONE + 18 * w` steps since the call was begun, then more than `w`
+/// compare-and-swaps of other passes have succeeded since.
+pub fn call_is_overtaken<T>(ring: &RingQueue<T>, op: &AnyOp<T>)
+    requires { (call : Command T) × IsMakingCall ring.now call op.now }
+    ensures { (w : ℕ) → (making op.now).begun.steps + (31 + 18 * w) < (making op.now).now.steps
+        → IsOvertaken ring.now op.now.operation op.now.pass w }
 {
     let _ = ring;
     let _ = op;

@@ -1,6 +1,7 @@
 //! The bound on the steps of a stack's operations.
-ghost use Rattle.std.specs.Prelude.{List, Option as Slot};
+ghost use Rattle.std.specs.Prelude.{ℕ, ◌+◌, ◌*◌, ◌<◌, List, Option as Slot};
 ghost use Rattle.bounded_model.specs.Laws.{Leaves};
+ghost use Rattle.bounded_model.specs.declared.commands.Command.{Command};
 ghost use Rattle.index_list.specs.declared.front.Front.{Front};
 ghost use Rattle.stack_table.specs.declared.operation.Operation.TheVariants.{Close, Shut};
 ghost use Rattle.treiber_stack.specs.Closing.{IsClosing, IsShutting};
@@ -11,14 +12,16 @@ ghost use Rattle.treiber_stack.specs.Looking.{IsLooking};
 ghost use Rattle.treiber_stack.specs.Putting.{IsPutting};
 ghost use Rattle.treiber_stack.specs.RangeTrying.{IsRanging};
 ghost use Rattle.treiber_stack.specs.Stack.{IsPassOf, IsRootOf, pass_in, root_in, shape_of};
+ghost use Rattle.treiber_stack.specs.Stepwise.{IsMakingCall, making};
 ghost use Rattle.treiber_stack.specs.Taking.{IsTaking};
 ghost use Rattle.treiber_stack.specs.Trying.{PutTried, TakeTried};
-ghost use Rattle.progress.specs.Stacks.{StepsAreBounded, EndsOrOvertaken, IsPaidRun};
+ghost use Rattle.progress.specs.Stacks.{StepsAreBounded, EndsOrOvertaken, IsOvertaken, IsPaidRun};
+ghost use Rattle.running.specs.Kept.{acts_of_root};
 
 use bounded_model::{PutRefused, Stepped, TakeRefused};
 use runs::step_for;
 use treiber_stack::{
-    CloseOp, FoldOp, LookOp, Pass, PutOp, RangeOp, Rest, Root, ShutOp, Stack, TakeOp,
+    AnyOp, CloseOp, FoldOp, LookOp, Pass, PutOp, RangeOp, Rest, Root, ShutOp, Stack, TakeOp,
 };
 
 /// A put or a take of one value, a close, a shut or a look that is still under way has made at most
@@ -59,7 +62,8 @@ pub fn take_or_overtaken<T: Drop>(
 pub fn end<T>(stack: Stack<T>, parent: Root<T>) -> Rest<T>
     requires { IsRootOf stack parent }
     ensures leaves { Leaves (shape_of stack) (root_in parent) (left_in result) }
-    ensures run { IsPaidRun stack (root_in parent) (left_in result) }
+    ensures run { IsPaidRun stack (acts_of_root parent) (root_in parent)
+        (left_in result) }
 {
     stack.finish(parent)
 }
@@ -124,6 +128,18 @@ pub fn range_is_bounded<T>(stack: &Stack<T>, op: &RangeOp<T>)
 pub fn fold_is_bounded<T>(stack: &Stack<T>, op: &FoldOp<T>)
     requires { (front : Front) × (values : List T) × IsFolding stack.now front values op.now }
     ensures { StepsAreBounded stack.now (fold_operation op.now.at) op.now.pass }
+{
+    let _ = stack;
+    let _ = op;
+}
+
+/// A call of any kind that is under way, as a call from C is that has answered `BUSY`. If its pass has
+/// counted more than `ALONE + 4 * w` steps since the call was begun, then more than `w`
+/// compare-and-swaps of other passes have succeeded since.
+pub fn call_is_overtaken<T>(stack: &Stack<T>, op: &AnyOp<T>)
+    requires { (call : Command T) × IsMakingCall stack.now call op.now }
+    ensures { (w : ℕ) → (making op.now).begun.steps + (9 + 4 * w) < (making op.now).now.steps
+        → IsOvertaken stack.now op.now.operation op.now.pass w }
 {
     let _ = stack;
     let _ = op;

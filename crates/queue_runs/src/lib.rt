@@ -7,9 +7,11 @@
 mod bounds;
 mod headline;
 mod linearizable;
+mod one_run;
 mod work;
 
 pub use bounds::{queue_acts_are_a_schedule, queue_steps_are_bounded};
 pub use headline::{queue_headline, queue_headline_near_misses};
 pub use linearizable::queue_acts_are_linearizable;
+pub use one_run::queue_one_run;
 pub use work::queue_total_work;

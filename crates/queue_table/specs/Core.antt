@@ -39,6 +39,7 @@ module _ (T : Type 0) (n limit : ℕ) where
     holding = λ l. length (held_cells l);
     reply = reply;
     Reads = ⊥;
+    Peeks = λ o. ⊥;
     rest = λ p. Idle None;
     stock = Idle None;
     IsStock = λ out l. Unit {0};

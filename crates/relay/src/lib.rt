@@ -1,5 +1,5 @@
 //! A relay: producer threads put the messages of their inputs into a bounded container, consumer
-//! threads take them out, and nothing is lost, doubled, or put out of a sender's order.
+//! threads take them out, and nothing is lost, duplicated, or put out of a sender's order.
 //!
 //! [`run`] promises, from the laws of a container alone:
 //! - Every message of every input is delivered, left in the container, or unsent, each once.

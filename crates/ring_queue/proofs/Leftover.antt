@@ -13,7 +13,7 @@ use Rattle.bounded_model.specs.Laws.{IsSound, Leaves}
 use Rattle.machine.specs.declared.seats.View.{View}
 use Rattle.machine.specs.declared.seats.View.TheVariants.{AtRoot}
 use Rattle.machine.specs.Words.{Tagged}
-use Rattle.machine.specs.Seats.{Rooted, Knows}
+use Rattle.machine.specs.Seats.{Acts, nothing, Rooted, Knows}
 use Rattle.machine.proofs.Tests.{cases}
 use Rattle.machine.proofs.SeatedEnds.{leaves}
 use Rattle.ring_machine.specs.declared.lines.Line.{Line}
@@ -184,7 +184,7 @@ module _ {T : Type 0} where
         })
 
   -- what a table that was closed with the root's seat has left; n' is the ring's capacity as the code has it
-  pub leaves_all : {root : SeatLine T} (n laps passes id n' : ℕ) (v : View T (SeatLine T)) (r : RootView T) (words : List ℕ) (cells : List (Slot T)) → n' ≡ n → (final : Final (Seen (Rule (ring_on T n laps passes)) id v) words cells) → v ≡ AtRoot r [] root → IsSound (shape_for T n laps passes) r
+  pub leaves_all : {root : SeatLine T} {ks : Acts (SeatLine T)} (n laps passes id n' : ℕ) (v : View T (SeatLine T)) (r : RootView T) (words : List ℕ) (cells : List (Slot T)) → n' ≡ n → (final : Final (Seen (Rule (ring_on T n laps passes)) id v) words cells) → v ≡ AtRoot r ks nothing root → IsSound (shape_for T n laps passes) r
       → (takes : ℕ) × HasTaken n' takes words × ((i : ℕ) → i < n' → IsFront n' takes i → Leaves (shape_for T n laps passes) r (values_from n' words n' cells i) × (values_from n' words n' cells i ≡ (bounded.state (shape_for T n laps passes) final.1.0.history).values))
   leaves_all n laps passes id n' v r words cells many final is sound =
       let rule = final.1.0 in

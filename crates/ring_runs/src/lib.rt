@@ -11,10 +11,12 @@ mod bounds;
 mod headline;
 mod linearizable;
 mod lock_free;
+mod one_run;
 mod work;
 
 pub use bounds::{ring_acts_are_a_schedule, ring_steps_are_bounded};
 pub use headline::ring_headline;
 pub use linearizable::ring_acts_are_linearizable;
 pub use lock_free::ring_acts_are_lock_free;
+pub use one_run::ring_one_run;
 pub use work::ring_total_work;

@@ -93,6 +93,7 @@ module _ (T : Type 0) (n laps passes : ℕ) where
     holding = λ l. 0;
     reply = reply_at;
     Reads = ⊥;
+    Peeks = λ o. ⊥;
     rest = λ p. At (resting (n + p));
     stock = Stock (cells_from n passes);
     IsStock = IsStock passes;

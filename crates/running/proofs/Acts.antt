@@ -1,5 +1,5 @@
 -- A step of a pass, a load that belongs to no line, a cut and a union of seats, after the acts that led to a table.
-use Rattle.std.proofs.Common.{◌≡◌, ◌≢◌, ℕ, ◌+◌, ◌<◌, ◌≤◌, ◌⊎◌, inl, inr, ⊎_elim, Bool, true, false, cond, zero, suc, lt_of_not-le, List, [], ◌∷◌, ◌++◌, append_assoc, length, set, refl, sym, ap, ◌∙◌, subst, ne_eqb, eq-eqb, arith}
+use Rattle.std.proofs.Common.{◌≡◌, ◌≢◌, ℕ, ◌+◌, ◌<◌, ◌≤◌, ◌⊎◌, inl, inr, ⊎_elim, Bool, true, false, cond, zero, suc, lt_of_not-le, List, [], ◌∷◌, ◌++◌, append_assoc, append-nil, length, set, refl, sym, ap, ◌∙◌, subst, ne_eqb, eq-eqb, arith}
 use Rattle.std.proofs.lemmas.Bool.{false≢true}
 use Rattle.std.specs.List.{AllByRecursion as Every}
 use mathlib.Core.Option.{some, some-injective, some-ne-none}
@@ -12,13 +12,15 @@ use Rattle.bounded_model.specs.declared.views.RootView.{RootView}
 use Rattle.bounded_model.specs.declared.views.Work.{Work}
 use Rattle.bounded_model.specs.Histories.{own as own_events}
 use Rattle.machine.specs.declared.seats.Begun.{Begun}
+use Rattle.machine.specs.declared.seats.Handed.{Handed}
 use Rattle.machine.specs.declared.seats.View.{View}
 use Rattle.machine.specs.declared.seats.View.TheVariants.{AtRoot, AtPass, AtMeeting, AtNote, AtHearing, Left}
-use Rattle.machine.specs.Seats.{Acts, Owns, IsJoined, Knows, Seated, at_rest, new_pass, rested, stepped, hearing, looked, left_of, right_of, both_of, first_view}
+use Rattle.machine.specs.Seats.{Acts, Extends, Owns, IsJoined, Knows, Seated, at_rest, new_pass, rested, stepped, hearing, looked, left_of, right_of, both_of, first_view, nothing}
 use Rattle.machine.proofs.Sums.{at_set}
 use Rattle.machine.proofs.Scheduled.{set_other, set_same}
 use Rattle.machine.proofs.Tests.{same_or_not}
 use Rattle.machine.proofs.Seating.{at_end, left_owns, both_owns, only_first}
+use Rattle.machine.proofs.SeatedCalls.{KnowsActs}
 use Rattle.running.specs.Machine.{Names, Machine, IsQuiet}
 use Rattle.running.specs.Rule.{line_now, going_now, quiet, view_after, MayCut, MayLook, MayUnite}
 use Rattle.running.specs.Acts.{Doing, Begins, Steps, Looks, Hears, placed, counted, sum_of, made, Now, having_stepped, after_act, played, IsAllowed, AllProper, AllFresh, answers_at, answers_after, answers_in, HasDone, Worked, Counts, Seen, Knew, Sees, IsSame, IsAt, Follows, IsOwned, Led, begun_acts, acts_after}
@@ -102,16 +104,16 @@ module _ {T L O : Type 0} {names : Names L O} (m : Machine T L O names) where
   last_there [] v = refl
   last_there (x ∷ xs) v = last_there xs v
 
-  looked_keeps : (h : List (Event T)) (v : View T L) (x : ℕ) → Owns v x → Owns (looked h v) x
-  looked_keeps h (AtRoot r heard l) x o = o
-  looked_keeps h v x o = o
+  looked_keeps : (h : List (Event T)) (acts : Acts L) (v : View T L) (x : ℕ) → Owns v x → Owns (looked h acts v) x
+  looked_keeps h acts (AtRoot r ks heard l) x o = o
+  looked_keeps h acts v x o = o
 
   same_or_less : (a b : ℕ) → (a ≤ b) → (b ≡ a) ⊎ (a + 1 ≤ b)
   same_or_less a b h = ⊎_elim (λ e. inl e) (λ ne. inr (let l : a < b = lt_of_not-le (λ le. ne (omega arith)) in omega arith)) (same_or_not b a)
 
   splits_owns : (v : View T L) (x : ℕ) → Owns v x → Owns (left_of names.shares v) x ⊎ Owns (right_of names.shares v) x
-  splits_owns (AtRoot r heard l) x (inl le) = ⊎_elim (λ e. inr e) (λ l. inl (inl l)) (same_or_less r.given x le)
-  splits_owns (AtRoot r heard l) x (inr j) = inl (inr j)
+  splits_owns (AtRoot r ks heard l) x (inl le) = ⊎_elim (λ e. inr e) (λ l. inl (inl l)) (same_or_less r.given x le)
+  splits_owns (AtRoot r ks heard l) x (inr j) = inl (inr j)
   splits_owns (AtPass p begun l) x o = inl o
   splits_owns (AtMeeting p xs k q ys l) x o = o
   splits_owns (AtNote told) x o = absurd o
@@ -119,20 +121,20 @@ module _ {T L O : Type 0} {names : Names L O} (m : Machine T L O names) where
   splits_owns Left x o = absurd o
 
   pub both_keeps : (v w : View T L) (x : ℕ) → Owns v x → Owns (both_of names.shares v w) x
-  both_keeps (AtRoot r heard l) (AtPass p begun k) x (inl le) = inl le
-  both_keeps (AtRoot r heard l) (AtPass p begun k) x (inr j) = inr (inr j)
+  both_keeps (AtRoot r ks heard l) (AtPass p begun k) x (inl le) = inl le
+  both_keeps (AtRoot r ks heard l) (AtPass p begun k) x (inr j) = inr (inr j)
   both_keeps (AtPass p begun l) (AtPass q begun' l') x o = inl o
   both_keeps (AtPass p begun l) (AtNote told) x o = o
   both_keeps v w x o = o
 
   -- what a seat takes in, where it may
-  pub root_takes : (v w : View T L) (r : RootView T) (q : PassView T) (b : Begun T L) (k l : L) → v ≡ AtRoot r [] k → w ≡ AtPass q b l → (x : ℕ) → Owns w x → Owns (both_of names.shares v w) x
-  root_takes v w r q b k l ev ew x o = subst (λ (u : View T L). Owns (both_of names.shares u w) x) (sym ev) (subst (λ (u : View T L). Owns u x → Owns (both_of names.shares (AtRoot r [] k) u) x) (sym ew) (λ o. inr (inl o)) o)
+  pub root_takes : (v w : View T L) (r : RootView T) (ks : Acts L) (q : PassView T) (b : Begun T L) (k l : L) → v ≡ AtRoot r ks nothing k → w ≡ AtPass q b l → (x : ℕ) → Owns w x → Owns (both_of names.shares v w) x
+  root_takes v w r ks q b k l ev ew x o = subst (λ (u : View T L). Owns (both_of names.shares u w) x) (sym ev) (subst (λ (u : View T L). Owns u x → Owns (both_of names.shares (AtRoot r ks nothing k) u) x) (sym ew) (λ o. inr (inl o)) o)
 
   pub pass_takes : (v w : View T L) (p q : PassView T) (a b : Begun T L) (k l : L) → v ≡ AtPass p a k → w ≡ AtPass q b l → (x : ℕ) → Owns w x → Owns (both_of names.shares v w) x
   pass_takes v w p q a b k l ev ew x o = subst (λ (u : View T L). Owns (both_of names.shares u w) x) (sym ev) (subst (λ (u : View T L). Owns u x → Owns (both_of names.shares (AtPass p a k) u) x) (sym ew) (λ o. inr o) o)
 
-  pub note_takes : (v w : View T L) (told : List (Event T)) → w ≡ AtNote told → (x : ℕ) → Owns w x → Owns (both_of names.shares v w) x
+  pub note_takes : (v w : View T L) (told : Handed T L) → w ≡ AtNote told → (x : ℕ) → Owns w x → Owns (both_of names.shares v w) x
   note_takes v w told ew x o = absurd (subst (λ (u : View T L). Owns u x → ⊥) (sym ew) (λ o. o) o)
 
   abbrev Replies : ℕ → Acts L → List (Answered T)
@@ -178,11 +180,29 @@ module _ {T L O : Type 0} {names : Names L O} (m : Machine T L O names) where
     same = λ f none deaf. sp.counts f x ne ∙ s.same f none deaf;
   }
 
+  still_extends : (p : ℕ) (acts acts' kept : Acts L) → Spares p acts acts' → Extends kept acts → Extends kept acts'
+  still_extends p acts acts' kept sp e = record { more = sp.newer ++ e.more; is = sp.is ∙ ap (λ (k : Acts L). sp.newer ++ k) e.is ∙ sym (append_assoc sp.newer e.more kept) }
+
+  -- what a pass knows is an older part of the acts
+  knew_part : (acts now : Acts L) (x : ℕ) → Knew names m.core acts now x → Extends now acts
+  knew_part acts now x k = record { more = k.others; is = k.is }
+
+  -- a pass that has done nothing may be given any older part of them
+  knew_any : (acts kept : Acts L) (x : ℕ) → Knew names m.core acts [] x → Extends kept acts → Knew names m.core acts kept x
+  knew_any acts kept x k e = record {
+    others = e.more;
+    is = e.is;
+    same = λ f none deaf. let a : sum_of f x acts ≡ 0 = k.same f none deaf in let b : sum_of f x acts ≡ sum_of f x e.more + sum_of f x kept = ap (sum_of f x) e.is ∙ sum_append f x e.more kept in omega (arith, a, b);
+  }
+
+  knew_all : (acts : Acts L) (x : ℕ) → Knew names m.core acts acts x
+  knew_all acts x = record { others = []; is = refl; same = λ f none deaf. refl }
+
   pub spared : (p : ℕ) (acts acts' : Acts L) → Spares p acts acts' → (v : View T L) → ((x : ℕ) → Owns v x → x ≢ p) → Fits acts v → Fits acts' v
   spared p acts acts' sp v off f = record { lines = λ x o. subst (λ (k : L). IsAt names m.core k v) (sym (sp.lines x (off x o))) (f.lines x o); counts = same v off f.counts; sees = seen v off f.sees }
     where
       same : (v : View T L) → ((x : ℕ) → Owns v x → x ≢ p) → Counts names m.core acts v → Counts names m.core acts' v
-      same (AtRoot r heard l) off c = (λ x le. still_done p acts acts' sp x 0 [] (off x (inl le)) (c.0 x le), still_worked p acts acts' sp r.account (λ x j. off x (inr j)) r.works c.1)
+      same (AtRoot r ks heard l) off c = (λ x le. still_done p acts acts' sp x 0 [] (off x (inl le)) (c.0 x le), still_worked p acts acts' sp r.account (λ x j. off x (inr j)) r.works c.1)
       same (AtPass q begun l) off c = still_done p acts acts' sp q.number q.steps q.answers (off q.number refl) c
       same (AtMeeting q xs k q' ys l) off c = (still_done p acts acts' sp q.number q.steps q.answers (off q.number (inl refl)) c.0, still_done p acts acts' sp q'.number q'.steps q'.answers (off q'.number (inr refl)) c.1)
       same (AtNote told) off c = tt
@@ -191,10 +211,10 @@ module _ {T L O : Type 0} {names : Names L O} (m : Machine T L O names) where
 
       seen : (v : View T L) → ((x : ℕ) → Owns v x → x ≢ p) → Sees names m.core acts v → Sees names m.core acts' v
       seen (AtPass q begun l) off c = (λ busy. still_seen p acts acts' sp begun.now q.number (off q.number refl) (c.0 busy), still_knew p acts acts' sp begun.now q.number (off q.number refl) c.1)
-      seen (AtRoot r heard l) off c = λ x le. still_knew p acts acts' sp [] x (off x (inl le)) (c x le)
+      seen (AtRoot r ks heard l) off c = (λ x le. still_knew p acts acts' sp [] x (off x (inl le)) (c.0 x le), still_extends p acts acts' ks sp c.1, still_extends p acts acts' heard.acts sp c.2)
       seen (AtMeeting q xs k q' ys l) off c = (c.0, still_knew p acts acts' sp xs q.number (off q.number (inl refl)) c.1, still_knew p acts acts' sp ys q'.number (off q'.number (inr refl)) c.2)
-      seen (AtNote told) off c = tt
-      seen (AtHearing q xs l told) off c = (c.0, still_knew p acts acts' sp xs q.number (off q.number refl) c.1)
+      seen (AtNote told) off c = still_extends p acts acts' told.acts sp c
+      seen (AtHearing q xs l told) off c = (c.0, still_knew p acts acts' sp xs q.number (off q.number refl) c.1, still_extends p acts acts' told.acts sp c.2)
       seen Left off c = tt
 
   -- a pass that is at this line, or begins an operation there, makes a step
@@ -394,7 +414,7 @@ module _ {T L O : Type 0} {names : Names L O} (m : Machine T L O names) where
     }
 
   -- a load that belongs to no line counts as a step of the seat's first pass
-  abbrev looking : Acts L → View T L → Acts L
+  abbrev pub looking : Acts L → View T L → Acts L
   looking acts (AtPass p begun l) = (p.number, Looks) ∷ acts
   looking acts (AtMeeting p xs k q ys l) = (p.number, Hears) ∷ acts
   looking acts (AtHearing p xs l told) = (p.number, Hears) ∷ acts
@@ -440,15 +460,11 @@ module _ {T L O : Type 0} {names : Names L O} (m : Machine T L O names) where
       answers_are = ap (λ (told : List (Answered T)). Heard ∷ told) d.answers_are ∙ sym (replies_same p.number Hears acts);
     }
 
-    heard_knew : (x : ℕ) (now : Acts L) → Knew names m.core acts now x → Knew names m.core ((x, Hears) ∷ acts) now x
-    heard_knew x now s = record {
-      others = (x, Hears) ∷ s.others;
-      is = ap (λ (k : Acts L). (x, Hears) ∷ k) s.is;
-      same = λ f none deaf. sum_same f x Hears acts ∙ ap (λ (k : ℕ). k + sum_of f x acts) deaf ∙ nothing_more (sum_of f x acts) ∙ s.same f none deaf;
-    }
+    one_more_act : (kept : Acts L) (a : ℕ × Doing L) → Extends kept acts → Extends kept (a ∷ acts)
+    one_more_act kept a e = record { more = a ∷ e.more; is = ap (λ (k : Acts L). a ∷ k) e.is }
 
-    looking_own : (h : List (Event T)) (v : View T L) → Knows h v → Fits acts v → Fits (looking acts v) (looked h v)
-    looking_own h (AtRoot r heard l) knows f = record { lines = f.lines; counts = (f.counts.0, f.counts.1); sees = f.sees }
+    looking_own : (h : List (Event T)) (v : View T L) → Knows h v → Fits acts v → Fits (looking acts v) (looked h (looking acts v) v)
+    looking_own h (AtRoot r ks heard l) knows f = record { lines = f.lines; counts = (f.counts.0, f.counts.1); sees = (f.sees.0, record { more = []; is = refl }, record { more = acts; is = sym (append-nil acts) }) }
     looking_own h (AtPass p begun l) knows f = record {
       lines = f.lines;
       counts = record {
@@ -474,17 +490,26 @@ module _ {T L O : Type 0} {names : Names L O} (m : Machine T L O names) where
         hearing_done h p f.counts.0,
         still_done p.number acts ((p.number, Hears) ∷ acts) (hear_spares p.number) q.number q.steps q.answers (λ e. knows.2 (sym e)) f.counts.1,
       );
-      sees = (f.sees.0, heard_knew p.number xs f.sees.1, still_knew p.number acts ((p.number, Hears) ∷ acts) (hear_spares p.number) ys q.number (λ e. knows.2 (sym e)) f.sees.2);
+      sees = (f.sees.0, knew_all ((p.number, Hears) ∷ acts) p.number, still_knew p.number acts ((p.number, Hears) ∷ acts) (hear_spares p.number) ys q.number (λ e. knows.2 (sym e)) f.sees.2);
     }
-    looking_own h (AtNote told) knows f = record { lines = f.lines; counts = tt; sees = tt }
-    looking_own h (AtHearing p xs l told) knows f = record { lines = f.lines; counts = hearing_done h p f.counts; sees = (f.sees.0, heard_knew p.number xs f.sees.1) }
+    looking_own h (AtNote told) knows f = record { lines = f.lines; counts = tt; sees = f.sees }
+    looking_own h (AtHearing p xs l told) knows f = record { lines = f.lines; counts = hearing_done h p f.counts; sees = (f.sees.0, knew_all ((p.number, Hears) ∷ acts) p.number, one_more_act told.acts (p.number, Hears) f.sees.2) }
     looking_own h Left knows f = record { lines = f.lines; counts = tt; sees = tt }
+
+    -- after the load the acts begin with all that the seat knows
+    pub looking_knows : (v : View T L) → Sees names m.core acts v → KnowsActs (looking acts v) v
+    looking_knows (AtRoot r ks heard l) s = (s.1, s.2)
+    looking_knows (AtPass p begun l) s = tt
+    looking_knows (AtMeeting p xs k q ys l) s = (one_more_act xs (p.number, Hears) (knew_part acts xs p.number s.1), one_more_act ys (p.number, Hears) (knew_part acts ys q.number s.2))
+    looking_knows (AtNote told) s = tt
+    looking_knows (AtHearing p xs l told) s = (one_more_act xs (p.number, Hears) (knew_part acts xs p.number s.1), one_more_act told.acts (p.number, Hears) s.2)
+    looking_knows Left s = tt
 
     looking_other : (v w : View T L) → ((x : ℕ) → Owns w x → Owns v x → ⊥) → Fits acts w → Fits (looking acts v) w
     looking_other (AtPass p begun l) w off f = spared p.number acts ((p.number, Looks) ∷ acts) (look_spares p.number) w (λ y o same. off y o same) f
     looking_other (AtMeeting p xs k q ys l) w off f = spared p.number acts ((p.number, Hears) ∷ acts) (hear_spares p.number) w (λ y o same. off y o (inl same)) f
     looking_other (AtHearing p xs l told) w off f = spared p.number acts ((p.number, Hears) ∷ acts) (hear_spares p.number) w (λ y o same. off y o same) f
-    looking_other (AtRoot r heard l) w off f = f
+    looking_other (AtRoot r ks heard l) w off f = f
     looking_other (AtNote told) w off f = f
     looking_other Left w off f = f
 
@@ -497,7 +522,7 @@ module _ {T L O : Type 0} {names : Names L O} (m : Machine T L O names) where
     }
 
     left_follows : (v : View T L) → Fits acts v → Fits acts (left_of names.shares v)
-    left_follows (AtRoot r heard l) f = record { lines = λ y o. f.lines y (left_owns names.shares (AtRoot r heard l) y o); counts = (λ y le. f.counts.0 y (omega arith), f.counts.1); sees = λ y le. f.sees y (omega arith) }
+    left_follows (AtRoot r ks heard l) f = record { lines = λ y o. f.lines y (left_owns names.shares (AtRoot r ks heard l) y o); counts = (λ y le. f.counts.0 y (omega arith), f.counts.1); sees = (λ y le. f.sees.0 y (omega arith), f.sees.1, f.sees.2) }
     left_follows (AtPass p begun l) f = f
     left_follows (AtMeeting p xs k q ys l) f = rest_follows p k xs f.sees.0.0 (f.lines p.number (inl refl)) f.counts.0 f.sees.1
     left_follows (AtNote told) f = f
@@ -505,29 +530,29 @@ module _ {T L O : Type 0} {names : Names L O} (m : Machine T L O names) where
     left_follows Left f = f
 
     right_follows : (v : View T L) → MayCut m v → Fits acts v → Fits acts (right_of names.shares v)
-    right_follows (AtRoot r heard l) may f = rest_follows (new_pass r) (names.shares.gives l).1 [] (m.laws.gives_quiet may.0 l may.1 may.2) (f.lines r.given (inl (omega arith))) (f.counts.0 r.given (omega arith)) (f.sees r.given (omega arith))
-    right_follows (AtPass p begun l) may f = record { lines = λ y o. absurd o; counts = tt; sees = tt }
+    right_follows (AtRoot r ks heard l) may f = rest_follows (new_pass r) (names.shares.gives l).1 ks (m.laws.gives_quiet may.0 l may.1 may.2) (f.lines r.given (inl (omega arith))) (f.counts.0 r.given (omega arith)) (knew_any acts ks r.given (f.sees.0 r.given (omega arith)) f.sees.1)
+    right_follows (AtPass p begun l) may f = record { lines = λ y o. absurd o; counts = tt; sees = knew_part acts begun.now p.number f.sees.1 }
     right_follows (AtMeeting p xs k q ys l) may f = rest_follows q l ys f.sees.0.1 (f.lines q.number (inr refl)) f.counts.1 f.sees.2
     right_follows (AtNote told) may f = f
-    right_follows (AtHearing p xs l told) may f = record { lines = λ y o. absurd o; counts = tt; sees = tt }
+    right_follows (AtHearing p xs l told) may f = record { lines = λ y o. absurd o; counts = tt; sees = f.sees.2 }
     right_follows Left may f = f
 
     both_follows : (v w : View T L) → MayUnite m v w → Fits acts v → Fits acts w → Fits acts (both_of names.shares v w)
-    both_follows (AtRoot r heard l) (AtPass p begun k) may f g = record {
-      lines = λ y o. ⊎_elim (λ a. f.lines y a) (λ b. (g.lines y b).idle ∙ idle_quiet k may.1) (both_owns names.shares (AtRoot r heard l) (AtPass p begun k) y o);
+    both_follows (AtRoot r ks heard l) (AtPass p begun k) may f g = record {
+      lines = λ y o. ⊎_elim (λ a. f.lines y a) (λ b. (g.lines y b).idle ∙ idle_quiet k may.1) (both_owns names.shares (AtRoot r ks heard l) (AtPass p begun k) y o);
       counts = (f.counts.0, ((inl refl, g.counts), worked_more acts r.account (p.number, own_events p.number p.seen) r.works f.counts.1));
-      sees = f.sees;
+      sees = (f.sees.0, f.sees.1, knew_part acts begun.now p.number g.sees.1);
     }
     both_follows (AtPass p begun k) (AtPass q begun' l) may f g = record {
       lines = λ y o. ⊎_elim (λ a. (f.lines y a).idle ∙ idle_quiet k may.0) (λ b. (g.lines y b).idle ∙ idle_quiet l may.1) o;
       counts = (f.counts, g.counts);
       sees = (may, f.sees.1, g.sees.1);
     }
-    both_follows (AtPass p begun l) (AtNote told) may f g = record { lines = λ y o. (f.lines y o).idle ∙ idle_quiet l may; counts = f.counts; sees = (may, f.sees.1) }
+    both_follows (AtPass p begun l) (AtNote told) may f g = record { lines = λ y o. (f.lines y o).idle ∙ idle_quiet l may; counts = f.counts; sees = (may, f.sees.1, g.sees) }
     both_follows v w may f g = absurd may
 
   module _ (memory : m.core.Memory) (views : List (View T L)) (h : List (Event T)) (led : Led names m.core memory views h) (seated : Seated m.core.shape m.core.holding h views) where
-    pub led_look : (id : ℕ) (v : View T L) → MayLook m v → get_elem? views id ≡ some v → Led names m.core memory (set views id (looked h v)) h
+    pub led_look : (id : ℕ) (v : View T L) → MayLook m v → get_elem? views id ≡ some v → Led names m.core memory (set views id (looked h (looking led.acts v) v)) h
     led_look id v may mine = record {
       acts = looking led.acts v;
       allowed = looking_allowed led.acts v led.allowed;
@@ -538,8 +563,8 @@ module _ {T L O : Type 0} {names : Names L O} (m : Machine T L O names) where
       each = λ j w e. ⊎_elim
           (λ t. subst (Fits (looking led.acts v)) t.1 (looking_own led.acts h v (seated.each id v mine).knows (led.each id v mine)))
           (λ t. looking_other led.acts v w (λ y o o'. seated.apart j id w v t.0 t.1 mine y o o') (led.each j w t.1))
-          (at_set views id j (looked h v) w e);
-      owned = λ x. owned_set views id v (looked h v) mine (looked_keeps h v) x (led.owned x);
+          (at_set views id j (looked h (looking led.acts v) v) w e);
+      owned = λ x. owned_set views id v (looked h (looking led.acts v) v) mine (looked_keeps h (looking led.acts v) v) x (led.owned x);
     }
 
     pub led_split : (id : ℕ) (v : View T L) → MayCut m v → get_elem? views id ≡ some v → Led names m.core memory (set views id (left_of names.shares v) ++ right_of names.shares v ∷ []) h
@@ -608,6 +633,6 @@ module _ {T L O : Type 0} {names : Names L O} (m : Machine T L O names) where
     fresh = tt;
     memory_is = is;
     history_is = refl;
-    each = λ j v e. subst (Fits []) (only_first m.core.shape m.core.holding j (first_view m.core.stock) v e).1 (record { lines = λ y o. m.laws.fresh y; counts = (λ y le. record { steps_are = refl; answers_are = refl }, tt); sees = λ y le. record { others = []; is = refl; same = λ f none deaf. refl } });
+    each = λ j v e. subst (Fits []) (only_first m.core.shape m.core.holding j (first_view m.core.stock) v e).1 (record { lines = λ y o. m.laws.fresh y; counts = (λ y le. record { steps_are = refl; answers_are = refl }, tt); sees = (λ y le. record { others = []; is = refl; same = λ f none deaf. refl }, record { more = []; is = refl }, record { more = []; is = refl }) });
     owned = λ x. record { seat = 0; view = first_view m.core.stock; there = refl; owns = inl (omega arith) };
   }

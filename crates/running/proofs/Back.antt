@@ -1,18 +1,20 @@
 -- The pass that comes back from an operation.
-use Rattle.std.proofs.Common.{◌≡◌, ℕ, true, sym, ap, ◌∙◌, subst}
+use Rattle.std.proofs.Common.{◌≡◌, ℕ, Bool, true, sym, ap, ◌∙◌, subst}
 use Rattle.atomic_table.specs.Seated.{TableId}
 use Rattle.bounded_model.specs.declared.answers.Stepped.{Stepped}
 use Rattle.bounded_model.specs.declared.answers.Stepped.TheVariants.{Again, Done}
 use Rattle.bounded_model.specs.declared.views.PassView.{PassView}
-use Rattle.bounded_model.specs.Stepping.{Underway, GoesOn, MatchStepped, OneStep, no_step}
+use Rattle.bounded_model.specs.Stepping.{GoesOn, MatchStepped, OneStep}
 use Rattle.machine.specs.Seats.{pass_of}
 use Rattle.machine.specs.declared.seats.View.{View}
 use Rattle.running.specs.Code.{Account}
 use Rattle.running.specs.Going.{Ended}
-use Rattle.running.specs.Kept.{IsPassAt, Makes, OpRunsFor, OpSteps, Returned, Took, Tried, pass_in, underway_in}
+use Rattle.running.specs.Kept.{HasNewCall, IsPassAt, acts_in, Makes, OpRunsFor, OpSteps, Returned, Took, Tried, pass_in, underway_in}
 use Rattle.running.specs.Machine.{Names, Machine}
-use Rattle.running.specs.Ops.{IsUnderWay, underway_of}
+use Rattle.running.specs.Ops.{IsUnderWay}
 use Rattle.running.specs.Passes as passes
+use Rattle.running.specs.Rule.{line_in}
+use Rattle.running.specs.Since.{HasNew, NewActs}
 use Rattle.running.specs.Steps.{Ran}
 use Rattle.running.specs.declared.code.Next.{Next}
 use Rattle.running.specs.declared.code.Next.TheVariants.{On, Done as Ended_now}
@@ -21,7 +23,7 @@ use Rattle.running.specs.declared.kept.PassWith.{PassWith}
 use Rattle.running.specs.declared.op.Op.{Op}
 use Rattle.running.specs.declared.passes.Pass as runs
 use Rattle.running.proofs.Going.{rests_at}
-use Rattle.running.proofs.Leading.{ended}
+use Rattle.running.proofs.Leading.{ended, since_none}
 use Rattle.running.proofs.Ways.{begun_is}
 
 module _ {T L O K R S : Type 0} {names : Names L O} (m : Machine T L O names) (c : Account T L O S (Answered K R)) (Keeps : L → K → Type 0) (id : TableId) (Gives : O → PassView T → PassView T → R → Type 0)
@@ -42,7 +44,7 @@ module _ {T L O K R S : Type 0} {names : Names L O} (m : Machine T L O names) (c
 
   -- and so does one that some steps of a call have ended
   pub has_returned_by : (o : O) (by q : runs.Pass T L) (a : Answered K R) → Ran m c id o by q (Ended_now a) → Returned m c Keeps id Gives o (passes.begun_of m by) (back q a) a.reply
-  has_returned_by o by q a ran = let e = ended m c id o (passes.begun_of m by) q a (idle o a) ran in returned o (passes.begun_of m by) q a e.0 e.1
+  has_returned_by o by q a ran = let e = ended m c id o (passes.begun_of m by) q a (idle o a) ran.0 in returned o (passes.begun_of m by) q a e.0 e.1
 
   module _ (o : O) (by : PassWith T L K) (is : IsPassAt m Keeps id by) where
     -- as its pass was, if it was between its calls
@@ -86,5 +88,20 @@ module _ {T L O K R S D : Type 0} {names : Names L O} (m : Machine T L O names) 
 
 -- an operation that was begun has run no step yet
 module _ {T L O K S A : Type 0} {names : Names L O} (m : Machine T L O names) (c : Account T L O S A) (Keeps : L → K → Type 0) (id : TableId) (by : PassWith T L K) (is : IsPassAt m Keeps id by) where
-  pub runs_from : (op : Op T L O S) → IsUnderWay m c id op → underway_of m op.pass ≡ no_step (pass_in by) → Ran m c id op.operation by.pass op.pass (On op.at)
-  runs_from op way begun = (way.stands, way.named, ap (λ (u : Underway T). u.begun) begun ∙ sym (begun_is m id by.pass is.on))
+  pub runs_from : (op : Op T L O S) → IsUnderWay m c id op → op.pass ≡ by.pass → Ran m c id op.operation by.pass op.pass (On op.at)
+  runs_from op way same = (way.stands, way.named, subst (λ (q : runs.Pass T L). passes.Since m by.pass q) (sym same) (since_none m c id by.pass))
+
+-- a pass that was between its calls has begun a new one
+module _ {T L O K : Type 0} {names : Names L O} (m : Machine T L O names) (id : TableId) (by : PassWith T L K) (on : passes.IsPassOn m id by.pass) where
+  rests_idle : names.is_idle (line_in names by.pass.seat.me.0) ≡ true
+  rests_idle = ap (λ (v : View T L). names.is_idle (line_in names v)) on.rests.view ∙ m.laws.rests (line_in names by.pass.seat.me.0)
+
+  pub new_call : (back : PassWith T L K) → HasNew names by.pass.seat.me.0 back.pass.seat.me.0 → HasNewCall by back
+  new_call back n = subst (λ (b : Bool). NewActs b (acts_in by) (acts_in back) (pass_in by).number) rests_idle n
+
+-- by what the code found in the result of its first steps
+module _ {T L O K S A : Type 0} {names : Names L O} (m : Machine T L O names) (c : Account T L O S A) (id : TableId) (by : PassWith T L K) (on : passes.IsPassOn m id by.pass) where
+  pub new_call_now : (o : O) (q : runs.Pass T L) (next : Next S A) (a : A) (back : PassWith T L K) → next ≡ Ended_now a → back.pass ≡ q → Ran m c id o by.pass q next → HasNewCall by back
+  new_call_now o q next a back now same ran =
+      let ended = subst (λ (n : Next S A). Ran m c id o by.pass q n) now ran in
+      new_call m id by on back (subst (λ (p : runs.Pass T L). HasNew names by.pass.seat.me.0 p.seat.me.0) (sym same) ended.1)

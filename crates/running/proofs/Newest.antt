@@ -7,7 +7,7 @@ use Rattle.bounded_model.specs.Histories.{Later}
 use Rattle.bounded_model.proofs.Histories.{no_parts}
 use Rattle.machine.specs.declared.seats.View.{View}
 use Rattle.machine.specs.declared.seats.View.TheVariants.{AtRoot, AtPass, AtMeeting, AtNote, AtHearing, Left}
-use Rattle.machine.specs.Seats.{Knows, first_view, looked, left_of, right_of, both_of}
+use Rattle.machine.specs.Seats.{Acts, Knows, first_view, looked, left_of, right_of, both_of}
 use Rattle.machine.proofs.Scheduled.{set_other, set_same}
 use Rattle.machine.proofs.Tests.{same_or_not}
 use Rattle.running.specs.Machine.{Names, Machine}
@@ -19,16 +19,16 @@ module _ {T L O : Type 0} {names : Names L O} (m : Machine T L O names) where
   same_view : (views : List (View T L)) (h : List (Event T)) (n : Newest h views) (id : ℕ) (v : View T L) → get_elem? views id ≡ some v → n.seat ≡ id → HasAll h v
   same_view views h n id v mine e = subst (HasAll h) (some-injective n.view v (sym n.there ∙ ap (get_elem? views) e ∙ mine)) n.has_all
 
-  looked_all : (h : List (Event T)) (v : View T L) → HasAll h v → HasAll h (looked h v)
-  looked_all h (AtRoot r heard l) a = inl refl
-  looked_all h (AtPass p begun l) a = refl
-  looked_all h (AtMeeting p xs k q ys l) a = inl refl
-  looked_all h (AtNote told) a = a
-  looked_all h (AtHearing p xs l told) a = inl refl
-  looked_all h Left a = a
+  looked_all : (h : List (Event T)) (acts : Acts L) (v : View T L) → HasAll h v → HasAll h (looked h acts v)
+  looked_all h acts (AtRoot r ks heard l) a = inl refl
+  looked_all h acts (AtPass p begun l) a = refl
+  looked_all h acts (AtMeeting p xs k q ys l) a = inl refl
+  looked_all h acts (AtNote told) a = a
+  looked_all h acts (AtHearing p xs l told) a = inl refl
+  looked_all h acts Left a = a
 
   split_all : (h : List (Event T)) (v : View T L) → HasAll h v → HasAll h (left_of names.shares v) ⊎ HasAll h (right_of names.shares v)
-  split_all h (AtRoot r heard l) a = inl a
+  split_all h (AtRoot r ks heard l) a = inl a
   split_all h (AtPass p begun l) a = inl a
   split_all h (AtMeeting p xs k q ys l) a = a
   split_all h (AtNote told) a = inl a
@@ -43,17 +43,17 @@ module _ {T L O : Type 0} {names : Names L O} (m : Machine T L O names) where
       (no_parts later.more _ (sym later.is ∙ empty)).1 ∙ sym empty
 
   unite_all : (h : List (Event T)) (v w : View T L) → MayUnite m v w → Knows h v → HasAll h v ⊎ HasAll h w → HasAll h (both_of names.shares v w)
-  unite_all h (AtRoot r heard l) (AtPass p begun k) may knows (inl a) = inl (root_all may.2 knows.seen a)
-  unite_all h (AtRoot r heard l) (AtPass p begun k) may knows (inr b) = inr b
+  unite_all h (AtRoot r ks heard l) (AtPass p begun k) may knows (inl a) = inl (root_all may.2 knows.seen a)
+  unite_all h (AtRoot r ks heard l) (AtPass p begun k) may knows (inr b) = inr b
   unite_all h (AtPass p begun k) (AtPass q begun' l) may knows a = a
   unite_all h (AtPass p begun l) (AtNote told) may knows a = a
   unite_all h v w may knows a = absurd may
 
   module _ (views : List (View T L)) (h : List (Event T)) (n : Newest h views) where
-    pub newest_look : (id : ℕ) (v : View T L) → get_elem? views id ≡ some v → Newest h (set views id (looked h v))
-    newest_look id v mine = ⊎_elim
-        (λ e. record { seat = id; view = looked h v; there = set_same views id v (looked h v) mine; has_all = looked_all h v (same_view views h n id v mine e) })
-        (λ ne. record { seat = n.seat; view = n.view; there = set_other views id n.seat (looked h v) (λ e. ne (sym e)) ∙ n.there; has_all = n.has_all })
+    pub newest_look : (acts : Acts L) (id : ℕ) (v : View T L) → get_elem? views id ≡ some v → Newest h (set views id (looked h acts v))
+    newest_look acts id v mine = ⊎_elim
+        (λ e. record { seat = id; view = looked h acts v; there = set_same views id v (looked h acts v) mine; has_all = looked_all h acts v (same_view views h n id v mine e) })
+        (λ ne. record { seat = n.seat; view = n.view; there = set_other views id n.seat (looked h acts v) (λ e. ne (sym e)) ∙ n.there; has_all = n.has_all })
         (same_or_not n.seat id)
 
     pub newest_split : (id : ℕ) (v : View T L) → get_elem? views id ≡ some v → Newest h (set views id (left_of names.shares v) ++ right_of names.shares v ∷ [])

@@ -7,7 +7,7 @@ use Rattle.atomic_table.proofs.Lists.{set_again}
 use Rattle.bounded_model.specs.declared.views.RootView.{RootView}
 use Rattle.machine.specs.declared.seats.View.{View}
 use Rattle.machine.specs.declared.seats.View.TheVariants.{AtRoot, AtMeeting, AtNote, AtHearing}
-use Rattle.machine.specs.Seats.{Looks, all_alike, at_rest, both_of, acts_now, pass_of, told_of}
+use Rattle.machine.specs.Seats.{Acts, Looks, all_alike, at_rest, both_of, acts_now, pass_of, handed_of, nothing}
 use Rattle.running.specs.Machine.{Names, Machine, Core, Cuts, Unites, Shared}
 use Rattle.running.specs.Rule.{line_in, MayCut, MayLook, MayUnite}
 
@@ -16,23 +16,23 @@ module _ {T L O : Type 0} {names : Names L O} (m : Machine T L O names) where
   R l = names.quiet l
 
   module _ (v w : View T L) where
-    pub unites_root : (r : RootView T) (out : ℕ) → v ≡ AtRoot r [] (line_in names v) → m.core.IsStock out (line_in names v) → w ≡ at_rest (R (line_in names w)) (pass_of w) (acts_now w) → MayUnite m v w
-    unites_root r out ev stock ew = subst (λ (u : View T L). MayUnite m u w) (sym ev) (subst (MayUnite m (AtRoot r [] (line_in names v))) (sym ew) ((out, stock), m.laws.calm (line_in names w), refl))
+    pub unites_root : (r : RootView T) (ks : Acts L) (out : ℕ) → v ≡ AtRoot r ks nothing (line_in names v) → m.core.IsStock out (line_in names v) → w ≡ at_rest (R (line_in names w)) (pass_of w) (acts_now w) → MayUnite m v w
+    unites_root r ks out ev stock ew = subst (λ (u : View T L). MayUnite m u w) (sym ev) (subst (MayUnite m (AtRoot r ks nothing (line_in names v))) (sym ew) ((out, stock), m.laws.calm (line_in names w), refl))
 
     pub unites_passes : v ≡ at_rest (R (line_in names v)) (pass_of v) (acts_now v) → w ≡ at_rest (R (line_in names w)) (pass_of w) (acts_now w) → MayUnite m v w
     unites_passes ev ew = subst (λ (u : View T L). MayUnite m u w) (sym ev) (subst (MayUnite m (at_rest (R (line_in names v)) (pass_of v) (acts_now v))) (sym ew) (m.laws.calm (line_in names v), m.laws.calm (line_in names w)))
 
-    pub unites_note : v ≡ at_rest (R (line_in names v)) (pass_of v) (acts_now v) → w ≡ AtNote (told_of w) → MayUnite m v w
+    pub unites_note : v ≡ at_rest (R (line_in names v)) (pass_of v) (acts_now v) → w ≡ AtNote (handed_of w) → MayUnite m v w
     unites_note ev ew = subst (λ (u : View T L). MayUnite m u w) (sym ev) (subst (MayUnite m (at_rest (R (line_in names v)) (pass_of v) (acts_now v))) (sym ew) (m.laws.calm (line_in names v)))
 
     -- what was made one may look what others have done
-    pub looks_root : (between : View T L) (r : RootView T) → v ≡ AtRoot r [] (line_in names v) → w ≡ at_rest (R (line_in names w)) (pass_of w) (acts_now w) → between ≡ both_of names.shares v w → MayLook m between
-    looks_root between r ev ew e = subst (MayLook m) (sym (e ∙ (λ i. both_of names.shares (ev i) (ew i)))) tt
+    pub looks_root : (between : View T L) (r : RootView T) (ks : Acts L) → v ≡ AtRoot r ks nothing (line_in names v) → w ≡ at_rest (R (line_in names w)) (pass_of w) (acts_now w) → between ≡ both_of names.shares v w → MayLook m between
+    looks_root between r ks ev ew e = subst (MayLook m) (sym (e ∙ (λ i. both_of names.shares (ev i) (ew i)))) tt
 
     pub looks_passes : (between : View T L) → v ≡ at_rest (R (line_in names v)) (pass_of v) (acts_now v) → w ≡ at_rest (R (line_in names w)) (pass_of w) (acts_now w) → between ≡ both_of names.shares v w → MayLook m between
     looks_passes between ev ew e = subst (MayLook m) (sym (e ∙ (λ i. both_of names.shares (ev i) (ew i)))) tt
 
-    pub looks_note : (between : View T L) → v ≡ at_rest (R (line_in names v)) (pass_of v) (acts_now v) → w ≡ AtNote (told_of w) → between ≡ both_of names.shares v w → MayLook m between
+    pub looks_note : (between : View T L) → v ≡ at_rest (R (line_in names v)) (pass_of v) (acts_now v) → w ≡ AtNote (handed_of w) → between ≡ both_of names.shares v w → MayLook m between
     looks_note between ev ew e = subst (MayLook m) (sym (e ∙ (λ i. both_of names.shares (ev i) (ew i)))) tt
 
     -- what was made one may be cut again, after a load
@@ -42,9 +42,9 @@ module _ {T L O : Type 0} {names : Names L O} (m : Machine T L O names) where
         let t = subst (λ (x : View T L). Looks m.core.shape x after) is tells in
         subst (MayCut m) (sym t.1) tt
 
-    pub cuts_note : (between after : View T L) → v ≡ at_rest (R (line_in names v)) (pass_of v) (acts_now v) → w ≡ AtNote (told_of w) → between ≡ both_of names.shares v w → Looks m.core.shape between after → MayCut m after
+    pub cuts_note : (between after : View T L) → v ≡ at_rest (R (line_in names v)) (pass_of v) (acts_now v) → w ≡ AtNote (handed_of w) → between ≡ both_of names.shares v w → Looks m.core.shape between after → MayCut m after
     cuts_note between after ev ew e tells =
-        let is : between ≡ AtHearing (pass_of v) (acts_now v) (R (line_in names v)) (told_of w) = e ∙ (λ i. both_of names.shares (ev i) (ew i)) in
+        let is : between ≡ AtHearing (pass_of v) (acts_now v) (R (line_in names v)) (handed_of w) = e ∙ (λ i. both_of names.shares (ev i) (ew i)) in
         let t = subst (λ (x : View T L). Looks m.core.shape x after) is tells in
         subst (MayCut m) (sym t.1) tt
 

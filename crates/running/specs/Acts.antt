@@ -12,7 +12,7 @@ pub use Rattle.machine.specs.declared.seats.Doing.{Doing}
 pub use Rattle.machine.specs.declared.seats.Doing.TheVariants.{Begins, Steps, Looks, Hears}
 use Rattle.machine.specs.declared.seats.View.{View}
 use Rattle.machine.specs.declared.seats.View.TheVariants.{AtRoot, AtPass, AtMeeting, AtNote, AtHearing, Left}
-use Rattle.machine.specs.Seats.{Acts, Owns, IsJoined}
+use Rattle.machine.specs.Seats.{Acts, Extends, Owns, IsJoined}
 use Rattle.running.specs.Machine.{Names, Core, IsQuiet}
 
 -- the memory, the line of each pass, and the history
@@ -137,7 +137,7 @@ module _ {T L O : Type 0} (names : Names L O) (c : Core T L O) where
 
   -- a seat's pass has done what its view says, a pass that is not given yet nothing, and a joined one what the root keeps of it
   abbrev pub Counts : Acts L → View T L → Type 0
-  Counts acts (AtRoot r heard l) = ((x : ℕ) → r.given ≤ x → HasDone acts x 0 []) × Every (Worked acts r.account) r.works
+  Counts acts (AtRoot r ks heard l) = ((x : ℕ) → r.given ≤ x → HasDone acts x 0 []) × Every (Worked acts r.account) r.works
   Counts acts (AtPass p begun l) = HasDone acts p.number p.steps p.answers
   Counts acts (AtMeeting p xs k q ys l) = HasDone acts p.number p.steps p.answers × HasDone acts q.number q.steps q.answers
   Counts acts (AtNote told) = Unit {0}
@@ -156,14 +156,15 @@ module _ {T L O : Type 0} (names : Names L O) (c : Core T L O) where
     pub is : acts ≡ others ++ now
     pub same : (f : Doing L → ℕ) → f Looks ≡ 0 → f Hears ≡ 0 → sum_of f x acts ≡ sum_of f x now
 
-  -- A pass knows the acts at its last step; one that is not given yet knows none. Passes that meet, or hear a note, are between their
-  -- operations
+  -- A pass knows the acts at its last step; one that is not given yet has done nothing. Passes that meet, or hear a note, are between their
+  -- operations. The root, what it is handed, and a note know an older part of the acts
   abbrev pub Sees : Acts L → View T L → Type 0
-  Sees acts (AtRoot r heard l) = (x : ℕ) → r.given ≤ x → Knew acts [] x
+  Sees acts (AtRoot r ks heard l) = ((x : ℕ) → r.given ≤ x → Knew acts [] x) × Extends ks acts × Extends heard.acts acts
   Sees acts (AtPass p begun l) = (names.is_idle l ≡ false → Seen acts begun.now p.number) × Knew acts begun.now p.number
   Sees acts (AtMeeting p xs k q ys l) = (IsQuiet names c k × IsQuiet names c l) × Knew acts xs p.number × Knew acts ys q.number
-  Sees acts (AtHearing p xs l told) = IsQuiet names c l × Knew acts xs p.number
-  Sees acts v = Unit {0}
+  Sees acts (AtNote told) = Extends told.acts acts
+  Sees acts (AtHearing p xs l told) = IsQuiet names c l × Knew acts xs p.number × Extends told.acts acts
+  Sees acts Left = Unit {0}
 
   -- a pass that is at a line by its steps is at this one by its seat: both are idle, or they are one
   pub record IsSame (by_steps line : L) : Type 0 where

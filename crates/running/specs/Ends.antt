@@ -5,7 +5,7 @@ use Rattle.bounded_model.specs.declared.views.RootView.{RootView}
 use Rattle.bounded_model.specs.Machine.{state}
 use Rattle.bounded_model.specs.Histories.{Later}
 use Rattle.bounded_model.specs.Laws.{NoneOut}
-use Rattle.machine.specs.Seats.{Acts, IsJoined}
+use Rattle.machine.specs.Seats.{Acts, Extends, IsJoined}
 use Rattle.running.specs.Acts.{Now, IsAllowed, AllProper, AllFresh, HasDone, played}
 use Rattle.running.specs.Machine.{Names, Machine}
 
@@ -27,3 +27,9 @@ module _ {T L O : Type 0} {names : Names L O} (m : Machine T L O names) where
     pub fresh : AllFresh names m.core acts
     pub unmade : (x : ℕ) → r.given ≤ x → HasDone names m.core acts x 0 []
     pub worked : Every (λ w. HasDone names m.core acts w.number w.steps w.answers) r.works
+
+  -- These are acts that come after all that the root knows of them. So the run of each call whose acts the root was handed, by a pass that it joined
+  -- or by one that this pass had heard of, is an older part of this run
+  pub record IsRunAfter (kept : Acts L) (r : RootView T) (left : List T) : Type 0 where
+    pub run : IsRun r left
+    pub extends : Extends kept run.acts

@@ -7,13 +7,14 @@ use Rattle.bounded_model.specs.declared.views.RootView.{RootView}
 use Rattle.bounded_model.specs.Stepping.{Underway, GoesOn, MatchStepped, OneStep}
 use Rattle.machine.specs.declared.seats.View.{View}
 use Rattle.machine.specs.declared.seats.View.TheVariants.{AtPass}
-use Rattle.machine.specs.Seats.{pass_of as pass_seen}
+use Rattle.machine.specs.Seats.{Acts, pass_of as pass_seen}
 use Rattle.running.specs.Code.{Account}
 use Rattle.running.specs.Going.{Ended, HasRun, IsLine}
 use Rattle.running.specs.Machine.{Names, Machine}
 use Rattle.running.specs.Ops.{IsUnderWay, underway_of}
 use Rattle.running.specs.Passes as passes
 use Rattle.running.specs.Rule.{begun_now}
+use Rattle.running.specs.Since.{BeganSince}
 use Rattle.running.specs.declared.op.Op.{Op}
 use Rattle.running.specs.declared.kept.Answered.{Answered}
 use Rattle.running.specs.declared.kept.PassWith.{PassWith}
@@ -26,6 +27,17 @@ module _ {T L K : Type 0} where
 
   abbrev pub root_in : RootWith T L K → RootView T
   root_in r = passes.root_in r.root
+
+  -- the acts that a pass and a root keep
+  abbrev pub acts_in : PassWith T L K → Acts L
+  acts_in p = passes.acts_in p.pass
+
+  abbrev pub acts_of_root : RootWith T L K → Acts L
+  acts_of_root r = passes.acts_of_root r.root
+
+  -- Of the acts that the pass keeps after a call, these are new: it has begun that call since, after all that it kept before
+  abbrev pub HasNewCall : PassWith T L K → PassWith T L K → Type 0
+  HasNewCall by back = BeganSince (acts_in by) (acts_in back) (pass_in by).number
 
 -- what an operation has answered, from the pass that is back and the reply
 abbrev pub answer_of : {T L K R : Type 0} → PassWith T L K → R → Answered K R

@@ -7,11 +7,13 @@ use Rattle.bounded_model.specs.declared.views.RootView.{RootView}
 use Rattle.bounded_model.specs.Machine.{Legal}
 use Rattle.bounded_model.specs.Laws.{IsSound}
 use Rattle.bounded_model.specs.Stepping.{OneStep}
+use Rattle.machine.specs.declared.seats.View.{View}
 use Rattle.machine.specs.declared.seats.View.TheVariants.{AtRoot, AtNote}
-use Rattle.machine.specs.Seats.{pass_of, root_of, told_of}
+use Rattle.machine.specs.Seats.{Acts, acts_now, handed_of, nothing, pass_of, root_of, told_of}
 use Rattle.running.specs.Machine.{Names, Machine}
 use Rattle.running.specs.Rule.{line_in}
 use Rattle.running.specs.Going.{Rests, At, IsLine, begun_in}
+use Rattle.running.specs.Since.{HasNew}
 use Rattle.running.specs.declared.passes.Pass.{Pass}
 use Rattle.running.specs.declared.passes.Root.{Root}
 use Rattle.running.specs.declared.passes.Note.{Note}
@@ -25,6 +27,16 @@ module _ {T L : Type 0} where
 
   abbrev pub told_in : Note T L → List (Event T)
   told_in n = told_of n.seat.me.0
+
+  -- the acts that a pass, a root and a note keep
+  abbrev pub acts_in : Pass T L → Acts L
+  acts_in p = acts_now p.seat.me.0
+
+  abbrev pub acts_of_root : Root T L → Acts L
+  acts_of_root r = acts_now r.seat.me.0
+
+  abbrev pub acts_of_note : Note T L → Acts L
+  acts_of_note n = acts_now n.seat.me.0
 
 -- The lines of passes and of the root, which tell what they have between their calls
 module _ {T L O : Type 0} (names : Names L O) where
@@ -48,7 +60,7 @@ module _ {T L O : Type 0} {names : Names L O} (m : Machine T L O names) where
   -- a root between its calls
   pub record IsRootOn (id : TableId) (r : Root T L) : Type 0 where
     pub table : r.seat.table_id ≡ id
-    pub view : r.seat.me.0 ≡ AtRoot (root_in r) [] (line_in names r.seat.me.0)
+    pub view : r.seat.me.0 ≡ AtRoot (root_in r) (acts_of_root r) nothing (line_in names r.seat.me.0)
     pub slots : r.seat.me.1 ≡ []
     pub sound : IsSound m.core.shape (root_in r)
     pub counted : (root_in r).given ≡ r.out + length (root_in r).account
@@ -57,7 +69,7 @@ module _ {T L O : Type 0} {names : Names L O} (m : Machine T L O names) where
   -- a note
   pub record IsNoteOn (id : TableId) (n : Note T L) : Type 0 where
     pub table : n.seat.table_id ≡ id
-    pub view : n.seat.me.0 ≡ AtNote (told_in n)
+    pub view : n.seat.me.0 ≡ AtNote (handed_of n.seat.me.0)
     pub slots : n.seat.me.1 ≡ []
     pub legal : Legal m.core.shape (told_in n)
 
@@ -73,6 +85,11 @@ module _ {T L O : Type 0} {names : Names L O} (m : Machine T L O names) where
   -- a step of a pass, one more, was the machine's step of the line l and led to l'
   abbrev pub OneLine : Pass T L → Pass T L → L → L → Type 0
   OneLine p q l l' = IsLine m p.seat.me.0 q.seat.me.0 l l' × OneStep (pass_in p) (pass_in q)
+
+  -- Some steps of its operation, or none: it was begun as before. If further steps have led from q to w, then what is new at w since q tells what is
+  -- new since p
+  abbrev pub Since : Pass T L → Pass T L → Type 0
+  Since p q = (begun_of q ≡ begun_of p) × ((w : View T L) → HasNew names q.seat.me.0 w → HasNew names p.seat.me.0 w)
 
   -- and its operation continues
   abbrev pub WentOn : Pass T L → Pass T L → L → L → Type 0

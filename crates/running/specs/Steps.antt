@@ -7,7 +7,8 @@ use Rattle.bounded_model.specs.declared.views.PassView.{PassView}
 use Rattle.machine.specs.declared.seats.View.{View}
 use Rattle.running.specs.Machine.{Names, Machine}
 use Rattle.running.specs.Going.{Found, Ended}
-use Rattle.running.specs.Passes.{IsAtOn, IsPassOn, WentOn, OneLine, begun_of, pass_in}
+use Rattle.running.specs.Passes.{IsAtOn, IsPassOn, Since, WentOn, OneLine, begun_of, pass_in}
+use Rattle.running.specs.Since.{HasNew}
 use Rattle.running.specs.Code.{Account, FoundBy, MatchNext, Tells}
 use Rattle.running.specs.declared.passes.Pass.{Pass}
 use Rattle.running.specs.declared.access.Outcome.{Outcome}
@@ -50,8 +51,8 @@ module _ {T L O : Type 0} {names : Names L O} (m : Machine T L O names) where
     -- what some steps of the operation o give
     abbrev pub Ran : O → Pass T L → Pass T L → Next S A → Type 0
     Ran o p q r = MatchNext r
-        (λ s'. Stands q s' × (o ≡ c.operation s') × (begun_of m q ≡ begun_of m p))
-        (λ a. Stops o (begun_of m p) q a)
+        (λ s'. Stands q s' × (o ≡ c.operation s') × Since m p q)
+        (λ a. Stops o (begun_of m p) q a × HasNew names p.seat.me.0 q.seat.me.0)
 
     abbrev pub RanFor : O → Pass T L → Stepped (Pass T L × S) (Pass T L) A → Type 0
     RanFor o p (Again next) = Ran o p next.0 (On next.1)

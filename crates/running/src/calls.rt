@@ -1,8 +1,10 @@
 //! Whole calls: an operation's steps, until it stops.
 ghost use Rattle.std.specs.Prelude.{◌≡◌};
+ghost use Rattle.bounded_model.specs.Stepping.{MatchStepped};
 ghost use Rattle.running.specs.Code.{Tells};
-ghost use Rattle.running.specs.Passes.{begun_of};
+ghost use Rattle.running.specs.Passes.{begun_of, pass_in};
 ghost use Rattle.running.specs.declared.passes.Pass.{Pass};
+ghost use Rattle.running.specs.Since.{HasNew};
 ghost use Rattle.running.specs.Steps.{Stands, Stops, Ran, RanFor, TellsFor, TookFor};
 
 use crate::code::{Code, Next, OnTable};
@@ -43,6 +45,8 @@ pub fn to_the_end<
     ensures stops { (by : Pass T L) → Ran (M.machine (C.key on.now)) (S.account (C.key on.now)) (C.id on.now) operation.now by first.0 first.1
         → Stops (M.machine (C.key on.now)) (S.account (C.key on.now)) (C.id on.now) operation.now (begun_of (M.machine (C.key on.now)) by) result.0
         result.1 }
+    ensures new { (by : Pass T L) → Ran (M.machine (C.key on.now)) (S.account (C.key on.now)) (C.id on.now) operation.now by first.0 first.1
+        → HasNew M.names by.seat.me.0 result.0.seat.me.0 }
     ensures told { (from : S) → Tells (S.account (C.key on.now)).told from first.1
         → (S.account (C.key on.now)).told from result.1 }
 {
@@ -77,6 +81,8 @@ fn go_on<
     ensures stops { (by : Pass T L) → Ran (M.machine (C.key on.now)) (S.account (C.key on.now)) (C.id on.now) operation.now by first.0 first.1
         → Stops (M.machine (C.key on.now)) (S.account (C.key on.now)) (C.id on.now) operation.now (begun_of (M.machine (C.key on.now)) by) result.0
         result.1 }
+    ensures new { (by : Pass T L) → Ran (M.machine (C.key on.now)) (S.account (C.key on.now)) (C.id on.now) operation.now by first.0 first.1
+        → HasNew M.names by.seat.me.0 result.0.seat.me.0 }
     ensures told { (from : S) → Tells (S.account (C.key on.now)).told from first.1
         → (S.account (C.key on.now)).told from result.1 }
 {
@@ -119,6 +125,7 @@ fn run_on<
     requires stands { Stands (M.machine (C.key on.now)) (S.account (C.key on.now)) (C.id on.now) by under_way }
     ensures stops { Stops (M.machine (C.key on.now)) (S.account (C.key on.now)) (C.id on.now) operation.now (begun_of (M.machine (C.key on.now)) by)
         result.0 result.1 }
+    ensures new { HasNew M.names by.seat.me.0 result.0.seat.me.0 }
     ensures told { (S.account (C.key on.now)).told under_way result.1 }
 {
     let mut pass = by;
@@ -161,8 +168,9 @@ pub fn at_once<
     const N: usize,
 >(on: &C, first: (Pass<T, L>, Next<S, A>), operation: &O) -> Stepped<(Pass<T, L>, S), Pass<T, L>, A>
     requires ran { (by : Pass T L) × Ran (M.machine (C.key on.now)) (S.account (C.key on.now)) (C.id on.now) operation.now by first.0 first.1 }
-    ensures { (by : Pass T L) → Ran (M.machine (C.key on.now)) (S.account (C.key on.now)) (C.id on.now) operation.now by first.0 first.1
+    ensures ran { (by : Pass T L) → Ran (M.machine (C.key on.now)) (S.account (C.key on.now)) (C.id on.now) operation.now by first.0 first.1
         → RanFor (M.machine (C.key on.now)) (S.account (C.key on.now)) (C.id on.now) operation.now by result }
+    ensures same { MatchStepped result (λ next. pass_in next.0 ≡ pass_in first.0) (λ back answer. pass_in back ≡ pass_in first.0) }
 {
     let _ = on;
     let _ = operation;

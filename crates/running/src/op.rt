@@ -42,6 +42,7 @@ impl<T, L, O: Drop, S> Op<T, L, O, S> {
             (C.id on.now) result }
         ensures begun { underway_of (M.machine (C.key on.now)) result.pass ≡ no_step (pass_in by) }
         ensures same { (result.operation ≡ operation) × (result.at ≡ at) }
+        ensures pass { result.pass ≡ by }
     {
         let _ = on;
         Op {

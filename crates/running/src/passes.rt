@@ -1,6 +1,7 @@
 //! The passes and the root of a container, for all machines.
 ghost use Rattle.std.specs.Prelude.{◌≡◌, ◌<◌, IfSome, IsSome, MatchOption, true};
 ghost use Rattle.bounded_model.specs.Laws.{IsFullOfPasses, Splits, Joins, Heeds, MeetGives};
+ghost use Rattle.machine.specs.Seats.{Extends};
 ghost use Rattle.running.specs.Passes.{
   IsPassOn,
   IsRootOn,
@@ -11,6 +12,9 @@ ghost use Rattle.running.specs.Passes.{
   told_in,
   pass_line,
   root_line,
+  acts_in,
+  acts_of_root,
+  acts_of_note,
 };
 
 use crate::rule::{Machine, Running};
@@ -42,7 +46,7 @@ pub struct Note<T, L> {
     pub seat: Seat<Option<T>, View<T, L>>,
 }
 
-/// Gives a new pass, which has seen what the root has. `None` exactly if `most` passes are out, the
+/// Gives a new pass, which has seen what the root has and keeps its acts. `None` exactly if `most` passes are out, the
 /// most that the container allows at one time.
 pub fn split<T, L, O, M: Machine<T, L, O>>(
     table: &Shared<Option<T>, View<T, L>, Limits, Running<O, M>>,
@@ -62,6 +66,10 @@ pub fn split<T, L, O, M: Machine<T, L, O>>(
     ensures lines { MatchOption result
         (root_line M.names parent.new ≡ root_line M.names parent.old)
         (GivesLine M.names parent.old parent.new) }
+    ensures acts { MatchOption result
+        (acts_of_root parent.new ≡ acts_of_root parent.old)
+        (λ p. (acts_of_root parent.new ≡ acts_of_root parent.old)
+        × (acts_in p ≡ acts_of_root parent.old)) }
 {
     if parent.out >= most {
         return None;
@@ -74,7 +82,8 @@ pub fn split<T, L, O, M: Machine<T, L, O>>(
     })
 }
 
-/// Lets the first pass see what the second has seen. The second comes back as it was. The answer is
+/// Lets the first pass see what the second has seen, and keep all acts that either has kept. The
+/// second comes back as it was. The answer is
 /// always true, because a table never lacks a seat.
 pub fn meet<T, L, O, M: Machine<T, L, O>>(
     table: &Shared<Option<T>, View<T, L>, Limits, Running<O, M>>,
@@ -91,6 +100,8 @@ pub fn meet<T, L, O, M: Machine<T, L, O>>(
     ensures met { result.1 ≡ true }
     ensures lines { (pass_line M.names first.new ≡ pass_line M.names first.old)
         × (pass_line M.names result.0 ≡ pass_line M.names second) }
+    ensures acts { Extends (acts_in first.old) (acts_in first.new)
+        × Extends (acts_in second) (acts_in first.new) × (acts_in result.0 ≡ acts_in second) }
 {
     let Pass { seat, density } = second;
     join_seats::<T, L, O, M>(table, &mut first.seat, seat);
@@ -99,7 +110,7 @@ pub fn meet<T, L, O, M: Machine<T, L, O>>(
     (Pass { seat, density }, true)
 }
 
-/// Makes a note of what the pass has seen. The answer is always some note, because a table never
+/// Makes a note of what the pass has seen, and of the acts that it keeps. The answer is always some note, because a table never
 /// lacks a seat.
 pub fn make_note<T, L, O, M: Machine<T, L, O>>(
     table: &Shared<Option<T>, View<T, L>, Limits, Running<O, M>>,
@@ -113,12 +124,14 @@ pub fn make_note<T, L, O, M: Machine<T, L, O>>(
         × (told_in n ≡ (pass_in by.old).seen)) }
     ensures made { IsSome result }
     ensures lines { pass_line M.names by.new ≡ pass_line M.names by.old }
+    ensures acts { (acts_in by.new ≡ acts_in by.old)
+        × IfSome result (λ n. acts_of_note n ≡ acts_in by.old) }
 {
     let seat = split_seat::<T, L, O, M>(table, &mut by.seat);
     Some(Note { seat })
 }
 
-/// The pass has now seen at least what the note tells.
+/// The pass has now seen at least what the note tells, and keeps the acts that the note has.
 pub fn heed<T, L, O, M: Machine<T, L, O>>(
     table: &Shared<Option<T>, View<T, L>, Limits, Running<O, M>>,
     by: &mut Pass<T, L>,
@@ -130,6 +143,8 @@ pub fn heed<T, L, O, M: Machine<T, L, O>>(
     ensures of { IsPassOn (M.machine table.now.key) table.now.table_id by.new }
     ensures gives { Heeds (pass_in by.old) (told_in note) (pass_in by.new) }
     ensures lines { pass_line M.names by.new ≡ pass_line M.names by.old }
+    ensures acts { Extends (acts_in by.old) (acts_in by.new)
+        × Extends (acts_of_note note) (acts_in by.new) }
 {
     let Note { seat } = note;
     join_seats::<T, L, O, M>(table, &mut by.seat, seat);
@@ -138,7 +153,7 @@ pub fn heed<T, L, O, M: Machine<T, L, O>>(
     let _ = split_seat::<T, L, O, M>(table, &mut by.seat);
 }
 
-/// The root takes a pass back: it has now seen what the pass has.
+/// The root takes a pass back: it has now seen what the pass has, and keeps its acts.
 pub fn join<T, L, O, M: Machine<T, L, O>>(
     table: &Shared<Option<T>, View<T, L>, Limits, Running<O, M>>,
     parent: &mut Root<T, L>,
@@ -151,6 +166,8 @@ pub fn join<T, L, O, M: Machine<T, L, O>>(
     ensures gives { Joins (root_in parent.old) (pass_in by) (root_in parent.new) }
     ensures lines { root_line M.names parent.new
         ≡ M.names.shares.takes (root_line M.names parent.old) (pass_line M.names by) }
+    ensures acts { Extends (acts_of_root parent.old) (acts_of_root parent.new)
+        × Extends (acts_in by) (acts_of_root parent.new) }
 {
     let Pass { seat, .. } = by;
     join_seats::<T, L, O, M>(table, &mut parent.seat, seat);

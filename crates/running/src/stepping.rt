@@ -1,5 +1,5 @@
 //! One atomic step of an operation, for all operations on all machines.
-ghost use Rattle.std.specs.Prelude.{◌≡◌};
+ghost use Rattle.std.specs.Prelude.{◌≡◌, ◌≤◌, ◌+◌};
 ghost use Rattle.running.specs.Going.{At};
 ghost use Rattle.bounded_model.specs.Stepping.{OneStep};
 ghost use Rattle.running.specs.Passes.{pass_in};
@@ -298,7 +298,7 @@ pub fn single_step<
     }
 }
 
-/// Like `step`, but promises only what a whole call needs of a step.
+/// Like `step`, but promises only what a whole call needs of a step, and that it is at most one.
 #[inline(always)]
 pub fn any<
     C: OnTable,
@@ -320,6 +320,7 @@ pub fn any<
     requires named { operation.now ≡ (S.account (C.key on.now)).operation at }
     requires stands { Stands (M.machine (C.key on.now)) (S.account (C.key on.now)) (C.id on.now) by at }
     ensures ran { Ran (M.machine (C.key on.now)) (S.account (C.key on.now)) (C.id on.now) operation.now by result.0 result.1 }
+    ensures took { (pass_in result.0).steps ≤ (pass_in by).steps + 1 }
     ensures told { Tells (S.account (C.key on.now)).told at result.1 }
 {
     step::<C, T, L, O, M, A, S, N>(table, on, by, at, operation)
@@ -376,6 +377,7 @@ pub fn first_step<
     requires named { operation.now ≡ (S.account (C.key on.now)).operation at }
     requires stands { Stands (M.machine (C.key on.now)) (S.account (C.key on.now)) (C.id on.now) by at }
     ensures ran { Ran (M.machine (C.key on.now)) (S.account (C.key on.now)) (C.id on.now) operation.now by result.0 result.1 }
+    ensures took { (pass_in result.0).steps ≤ (pass_in by).steps + 1 }
     ensures told { Tells (S.account (C.key on.now)).told at result.1 }
 {
     let Pass { seat, density } = by;

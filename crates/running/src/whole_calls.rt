@@ -1,6 +1,9 @@
 //! The end of a call: what comes back to its caller.
+ghost use Rattle.std.specs.Prelude.{◌≡◌};
+ghost use Rattle.bounded_model.specs.Stepping.{MatchStepped};
 ghost use Rattle.running.specs.Kept.{IsPassAt, Returned, Took, pass_in};
-ghost use Rattle.running.specs.Passes.{begun_of};
+ghost use Rattle.running.specs.Passes.{begun_of, pass_in as pass_now};
+ghost use Rattle.running.specs.Since.{HasNew};
 ghost use Rattle.running.specs.Steps.{Ran};
 ghost use Rattle.running.specs.declared.kept.PassWith as kept;
 ghost use Rattle.running.specs.declared.passes.Pass as runs;
@@ -49,6 +52,10 @@ pub fn whole<
         → Returned (M.machine (C.key on.now)) (S.account (C.key on.now)) C.keeps (C.id on.now)
         (S.gives (C.key on.now)) operation (begun_of (M.machine (C.key on.now)) by) result.0
         result.1 }
+    ensures new { (by : runs.Pass T L)
+        → Ran (M.machine (C.key on.now)) (S.account (C.key on.now)) (C.id on.now) operation
+        by first.0 first.1
+        → HasNew M.names by.seat.me.0 result.0.pass.seat.me.0 }
 {
     let (pass, answer) = to_the_end::<R, C, T, L, O, M, Answered<K, A>, S, N>(
         rt,
@@ -92,6 +99,8 @@ pub fn leave<
         by first.0 first.1
         → Took (M.machine (C.key on.now)) (S.account (C.key on.now)) C.keeps (C.id on.now)
         (S.gives (C.key on.now)) operation (begun_of (M.machine (C.key on.now)) by) result }
+    ensures same { MatchStepped result (λ op. pass_now op.pass ≡ pass_now first.0)
+        (λ back reply. pass_in back ≡ pass_now first.0) }
 {
     match at_once::<C, T, L, O, M, Answered<K, A>, S, N>(on, first, &operation) {
         Stepped::Again((pass, at)) => Stepped::Again(Op {

@@ -13,3 +13,4 @@ pub mod WrongTables
 pub mod InTime
 pub mod Effects
 pub mod WrongCalls
+pub mod OneRun

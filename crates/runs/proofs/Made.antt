@@ -48,6 +48,17 @@ module _ {T L O : Type 0} {names : Names L O} (m : Machine T L O names) where
   course_in {o} g busy = subst (λ (u : V). (rest : L) × Course names m.core (acts_before u) (acts_now u) (pass_of u).number (names.first o rest) (line_in names u)) (sym g.is)
       (g.course (ap (λ (u : V). names.is_idle (line_in names u)) (sym g.is) ∙ busy))
 
+  -- what its pass has counted since the begin are steps of the machine, if it makes no other loads
+  pub spent_in : {o : O} {v : V} {begun : PassView T} {l : L} → Going m o v begun l → names.is_idle (line_in names v) ≡ false → (m.core.Peeks o → ⊥) → (pass_of v).steps + steps_in (pass_of v).number (acts_before v) ≡ begun.steps + steps_in (pass_of v).number (acts_now v)
+  spent_in {begun = begun} g busy none = subst (λ (u : V). (pass_of u).steps + steps_in (pass_of u).number (acts_before u) ≡ begun.steps + steps_in (pass_of u).number (acts_now u)) (sym g.is)
+      (g.spent (ap (λ (u : V). names.is_idle (line_in names u)) (sym g.is) ∙ busy) none)
+
+  -- and before the first step they are none
+  pub spent_none : {o : O} {v : V} {begun : PassView T} {l : L} → Going m o v begun l → names.is_idle (line_in names v) ≡ true → (pass_of v).steps ≡ begun.steps
+  spent_none {begun = begun} g idle =
+      let at : names.is_idle g.at ≡ true = ap (λ (u : V). names.is_idle (line_in names u)) (sym g.is) ∙ idle in
+      ap (λ (u : V). (pass_of u).steps) g.is ∙ ap (λ (k : PassView T). k.steps) (sym (ap (λ (b : Bool). cond b g.pass g.from.view) at) ∙ g.begun_is)
+
   -- the steps that it has made are those of its course
   pub course_steps : {before now : Acts L} {x n : ℕ} {first first' l : L} (k : Course names m.core before now x first l) → MadeSince before now x first' n → steps_in x k.since ≡ n
   course_steps {before} {x = x} {first = first} {first' = first'} k w = ap (steps_in x) (same_since x k.since w.since before before first first' k.once w.once (sym k.is ∙ w.is)) ∙ w.steps

@@ -6,3 +6,4 @@ pub mod Table
 pub mod WrongTables
 pub mod InTime
 pub mod WrongCalls
+pub mod OneRun

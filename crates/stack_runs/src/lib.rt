@@ -8,9 +8,11 @@
 mod bounds;
 mod headline;
 mod linearizable;
+mod one_run;
 mod work;
 
 pub use bounds::{stack_acts_are_a_schedule, stack_steps_are_bounded};
 pub use headline::stack_headline;
 pub use linearizable::stack_acts_are_linearizable;
+pub use one_run::stack_one_run;
 pub use work::stack_total_work;

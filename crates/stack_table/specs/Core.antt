@@ -14,7 +14,7 @@ use Rattle.running.specs.Machine.{Core}
 use Rattle.running.specs.Tables.{Board, Rules, core_of}
 use Rattle.stack_table.specs.declared.operation.Operation.{Operation}
 use Rattle.stack_table.specs.Layout.{layout}
-use Rattle.stack_table.specs.Lines.{call_of, reply, Brings, Says}
+use Rattle.stack_table.specs.Lines.{PutsMany, call_of, reply, Brings, Says}
 
 module _ (T : Type 0) (n limit : ℕ) where
   abbrev pub board : Board T (Memory T) Top Link (Line T)
@@ -35,6 +35,7 @@ module _ (T : Type 0) (n limit : ℕ) where
     holding = λ l. length (held l);
     reply = reply;
     Reads = Unit {0};
+    Peeks = λ o. PutsMany (call_of o);
     rest = λ p. Idle None;
     stock = Idle None;
     IsStock = λ out l. Unit {0};

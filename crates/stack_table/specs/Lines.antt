@@ -51,6 +51,11 @@ module _ {T : Type 0} where
   call_of (FoldFirst front) = CallTake (Whole (direction front))
   call_of GaugeFirst = CallGauge
 
+  -- a put of more than one value, which reads its values back if it is refused
+  abbrev pub PutsMany : Call T → Type 0
+  PutsMany (CallPut v (w ∷ more)) = Unit {0}
+  PutsMany call = ⊥
+
   -- what its call has answered, of a pass that is idle at this line
   abbrev pub answered : Answer T → Answered T
   answered (AnswerPut (Ok r)) = PutAnswered (Ok r.0)

@@ -17,7 +17,7 @@ use Rattle.machine.specs.declared.seats.View.TheVariants.{AtRoot}
 use Rattle.stack_machine.specs.Machine.{stacked}
 use Rattle.stack_machine.specs.Answers.{shape}
 use Rattle.machine.specs.Chains.{HasValues}
-use Rattle.machine.specs.Seats.{Rooted, Knows}
+use Rattle.machine.specs.Seats.{Acts, nothing, Rooted, Knows}
 use Rattle.machine.proofs.Tests.{cases}
 use Rattle.machine.proofs.Lists.{times_here, not_there}
 use Rattle.machine.proofs.Chains.{values_frame}
@@ -113,7 +113,7 @@ module _ {T : Type 0} where
   values_home homes slots same (i ∷ is) [] has = absurd has
 
   -- what a table that was closed with the root's seat has left
-  pub leaves_all : {root : Line T} (n limit id : ℕ) (v : View T (Line T)) (r : RootView T) (words : List ℕ) (slots : List (Slot T)) (index : ℕ) → (final : Final (Seen (Rule {names = _} (stack T n limit)) id v) words slots) → v ≡ AtRoot r [] root → IsSound (shape n limit) r → length slots ≤ NULL
+  pub leaves_all : {root : Line T} {ks : Acts (Line T)} (n limit id : ℕ) (v : View T (Line T)) (r : RootView T) (words : List ℕ) (slots : List (Slot T)) (index : ℕ) → (final : Final (Seen (Rule {names = _} (stack T n limit)) id v) words slots) → v ≡ AtRoot r ks nothing root → IsSound (shape n limit) r → length slots ≤ NULL
       → index ≡ index_of (slice_index words top_at) → Leaves (shape n limit) r (left_along words slots index) × (left_along words slots index ≡ (state (shape n limit) final.1.0.history).values)
   leaves_all n limit id v r words slots index final is sound few top =
       let rule = final.1.0 in

@@ -129,7 +129,7 @@ module _ {T : Type 0} (c : Stack T) (o : Operation T) (p : Pass T (Line T)) (vs 
     pub begins : Ran (machine_of c) (range_account c.table.shared.key) c.table.shared.table_id o p p (On from)
     begins =
         let so = subst (λ (k : Operation T). IsRangeAt c k p (put_begun b) nodes at) (sym of) (subst (λ (put : Putting T). IsRangeAt c o p put nodes at) (sym named) is.is) in
-        (record { at = so.line; knows = so.read }, sym of, refl)
+        (record { at = so.line; knows = so.read }, sym of, (refl, λ w n. n))
 
     -- they have stopped
     pub stops_so : (q : Pass T (Line T)) (r : RangeStopped T) → StopTold c from r → Stops (machine_of c) (range_account c.table.shared.key) c.table.shared.table_id o (begun_of c p) q r → HasStopped c o (begun_of c p) q vs nodes at r.stop
@@ -156,7 +156,7 @@ module _ {T : Type 0} (c : Stack T) (o : Operation T) (p : Pass T (Line T)) (vs 
             };
             wants = λ e. is.wants (on.1 e);
           },
-          ran.2,
+          ran.2.0,
           on.2,
         )
 

@@ -6,6 +6,7 @@ use Rattle.atomic_table.specs.Table.{rest}
 use Rattle.tagged_index.specs.Fields.{index_of}
 use Rattle.tagged_index.specs.declared.word.TheConstants.{NULL}
 use Rattle.bounded_model.specs.declared.answers.PutRefused.{PutRefused}
+use Rattle.bounded_model.specs.declared.history.Event.{Event}
 use Rattle.bounded_model.specs.declared.views.PassView.{PassView}
 use Rattle.bounded_model.proofs.Adding.{Sometime-wider}
 use Rattle.bounded_model.proofs.Histories.{is_nil, Later-refl, Later-trans}
@@ -18,18 +19,19 @@ use Rattle.machine.specs.declared.seats.View.{View}
 use Rattle.running.specs.Acts.{Course, made}
 use Rattle.machine.specs.declared.seats.View.TheVariants.{AtRoot, AtPass, AtMeeting, AtNote, AtHearing, Left}
 use Rattle.machine.proofs.Lists.{times_here, times_append}
-use Rattle.stack_machine.specs.Deeds.{Deeds}
+use Rattle.stack_machine.specs.Deeds.{Deeds, Makes, handed_back}
 use Rattle.stack_machine.specs.Machine.{starts, stacked}
 use Rattle.stack_machine.specs.Rule.{IsFine, Gives}
 use Rattle.stack_machine.specs.declared.lines.Answer.TheVariants.{Put as AnswerPut}
 use Rattle.stack_machine.specs.declared.lines.Call.{Call}
-use Rattle.stack_machine.specs.declared.lines.Call.TheVariants.{Put as CallPut}
+use Rattle.stack_machine.specs.declared.lines.Call.TheVariants.{Put as CallPut, Take as CallTake, Close as CallClose, Shut as CallShut, Look as CallLook, Gauge as CallGauge}
+use Rattle.stack_machine.specs.declared.lines.Taking.TheVariants.{One, Whole}
 use Rattle.stack_machine.specs.declared.lines.Giving.{Giving}
 use Rattle.stack_machine.specs.declared.lines.Line.{Line}
 use Rattle.stack_machine.specs.declared.lines.Line.TheVariants.{Idle, LoadFreeToGive}
 use Rattle.stack_machine.proofs.Doing.{meanwhile}
 use Rattle.stack_table.specs.Layout.{link_at}
-use Rattle.stack_table.specs.Lines.{call_of, names}
+use Rattle.stack_table.specs.Lines.{PutsMany, call_of, names}
 use Rattle.stack_table.specs.Memories.{memory_of}
 use Rattle.stack_table.specs.Slots.{full, vacant}
 use Rattle.stack_table.specs.declared.operation.Operation.{Operation}
@@ -40,6 +42,7 @@ use Rattle.running.specs.declared.passes.Pass.{Pass}
 use Rattle.treiber_stack.specs.declared.call_parts.giving.Give.TheVariants.{Load}
 use Rattle.treiber_stack.specs.declared.bulk.range_steps.Held.{Held}
 use Rattle.treiber_stack.specs.declared.call_parts.refusing.Barred.{Barred}
+use Rattle.treiber_stack.specs.declared.call_parts.refusing.Barred.TheVariants.{Closed, Spent}
 use Rattle.treiber_stack.specs.Giving.{IsGiving}
 use Rattle.treiber_stack.specs.Ranging.{putting, refused, IsNext, IsRefused, IsRestoring, ReadsAgain}
 use Rattle.treiber_stack.specs.Refusing.{barring}
@@ -84,7 +87,7 @@ module _ {T : Type 0} (c : Stack T) where
   -- a stack's passes make such loads
   pub may_look : (v : View T (Line T)) → MayLook (machine_of c) v
   may_look (AtPass p begun l) = tt
-  may_look (AtRoot r heard l) = tt
+  may_look (AtRoot r ks heard l) = tt
   may_look (AtMeeting p xs k q ys l) = tt
   may_look (AtNote told) = tt
   may_look (AtHearing p xs l told) = tt
@@ -106,10 +109,21 @@ module _ {T : Type 0} (c : Stack T) where
     line_is : {v : View T (Line T)} {begun : PassView T} {giving : Giving T} → Going (machine_of c) o v begun (LoadFreeToGive giving) → line_in names v ≡ LoadFreeToGive giving
     line_is {v} {begun} {giving} g = ap (line_in names) g.is ∙ busy_at g.at giving g.now
 
-    -- a load that belongs to no line leaves a refused put at its line
-    looked_going : {v v' : View T (Line T)} {begun : PassView T} (chain : List ℕ) (why : PutRefused (List T)) → Going (machine_of c) o v begun (LoadFreeToGive (record { chain = chain; answer = AnswerPut (Err why) })) → Looks (shape_of c) v v'
+    -- only a put of more than one value has so many to hand back
+    puts_many : (p : ℕ) (call : Call T) (why : PutRefused (List T)) (events : List (Event T)) → Makes p call (AnswerPut (Err why)) events → 1 < length (handed_back why) → PutsMany call
+    puts_many p (CallPut v []) why events made many = absurd (let one = ap length made.0 in omega (arith, one, many))
+    puts_many p (CallPut v (w ∷ more)) why events made many = tt
+    puts_many p (CallTake One) why events made many = absurd made
+    puts_many p (CallTake (Whole d)) why events made many = absurd made
+    puts_many p CallClose why events made many = absurd made
+    puts_many p CallShut why events made many = absurd made
+    puts_many p CallLook why events made many = absurd made
+    puts_many p CallGauge why events made many = absurd made
+
+    -- a load that belongs to no line leaves a refused put of more than one value at its line
+    looked_going : {v v' : View T (Line T)} {begun : PassView T} (chain : List ℕ) (why : PutRefused (List T)) → 1 < length (handed_back why) → Going (machine_of c) o v begun (LoadFreeToGive (record { chain = chain; answer = AnswerPut (Err why) })) → Looks (shape_of c) v v'
         → Going (machine_of c) o v' begun (LoadFreeToGive (record { chain = chain; answer = AnswerPut (Err why) }))
-    looked_going {v} {v'} {begun} chain why g looks =
+    looked_going {v} {v'} {begun} chain why many g looks =
         let l : Line T = LoadFreeToGive (record { chain = chain; answer = AnswerPut (Err why) }) in
         let looked : Looks (shape_of c) (AtPass g.pass g.from g.at) v' = subst (λ (u : View T (Line T)). Looks (shape_of c) u v') g.is looks in
         let q : PassView T = looked.0 in
@@ -132,6 +146,7 @@ module _ {T : Type 0} (c : Stack T) where
           course = λ busy. let was = g.course busy in (was.0, subst (λ (k : ℕ). Course names (machine_of c).core g.from.before g.from.now k (names.first o was.0) g.at) (sym adds.number) was.1);
           counted = λ busy. subst (λ (k : ℕ). begun.steps ≡ made k g.from.before) (sym adds.number) (g.counted busy);
           earlier = g.earlier;
+          spent = λ busy none. absurd (none (puts_many g.pass.number (call_of o) why _ g.deeds.made many));
           answers = looked.2 ∙ g.answers;
         }
 
@@ -150,6 +165,11 @@ module _ {T : Type 0} (c : Stack T) (o : Operation T) (vs : List T) (nodes : Hel
     next = λ _. r.has.begins;
     at = subst (λ (zs : List (ℕ × Slot T)). IsAt c o p (LoadFreeToGive (back r.chain)) zs) (sym (append-nil (full r.chain (reverse (take (length r.chain) vs))))) r.at;
   }
+
+  -- a refusal hands all values back
+  handed_many : (b : Barred) (us : List T) → 1 < length us → 1 < length (handed_back (barring b us))
+  handed_many Closed us many = many
+  handed_many (Spent t) us many = many
 
   module _ (p : Pass T (Line T)) (gone index : ℕ) (r : IsRestoring c o p vs nodes why gone index) (here : gone < nodes.count) (place : ℕ) (is : place + (1 + gone) ≡ nodes.count) where
     many : length r.left ≡ suc place
@@ -225,7 +245,7 @@ module _ {T : Type 0} (c : Stack T) (o : Operation T) (vs : List T) (nodes : Hel
       pub restore_next : 0 < place → (next : ℕ) (s : Pass T (Line T)) → s.seat.table_id ≡ q.seat.table_id → s.seat.me.1 ≡ q.seat.me.1 → Looks (shape_of c) q.seat.me.0 s.seat.me.0 → ReadsAgain q.seat.me.0 index next → IsRestoring c o s vs nodes why (gone + 1) next × (begun_of c s ≡ begun_of c p)
       restore_next h next s table' same looks reads =
           let going = out_so.0.at.going in
-          let going' = looked_going c o r.chain (barring why vs) going looks in
+          let going' = looked_going c o r.chain (barring why vs) (handed_many why vs (let low = low_place in omega (arith, low, h))) going looks in
           let kept : begun_in (machine_of c) s.seat.me.0 ≡ begun_of c q = begun_going going' in
           let one = parts_of more (pred_of place) (fewer ∙ pred_is place h) in
           let line : line_in names q.seat.me.0 ≡ LoadFreeToGive (back r.chain) = line_is c o going in

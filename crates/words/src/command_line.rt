@@ -52,7 +52,7 @@ and with --trace it writes on standard error, for the last line,
 const ABOUT_RELAY: &str = "Relays the lines of files through one container: a thread for each
 file puts its lines in, others take lines out. Writes how many lines
 of each file were delivered, left and unsent, so that a lost or
-doubled line would show";
+duplicated line would show";
 
 const RELAY_USAGE: &str = "lockfree relay [OPTIONS] --kind <KIND> --capacity <N> --consumers <C>
                       <FILE>...";

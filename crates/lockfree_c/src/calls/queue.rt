@@ -1,9 +1,9 @@
 //! A queue's calls, counts and gauges: each makes its fast path and then a bounded number of steps.
-ghost use Rattle.running.specs.Passes.{begun_of};
+ghost use Rattle.running.specs.Passes.{begun_of, pass_in};
 ghost use Rattle.ms_queue.specs.Counting.{IsCounting};
 ghost use Rattle.ms_queue.specs.Gauging.{IsGauging};
 ghost use Rattle.ms_queue.specs.Queue.{machine_of};
-ghost use Rattle.lockfree_c.specs.Queues.{CountTried, GaugeTried};
+ghost use Rattle.lockfree_c.specs.Queues.{CountTried, GaugeTried, WorkedAtMost, count_steps, gauge_steps};
 
 use crate::calls::{BoundedCalls, Counts};
 use crate::steps::{QUEUE_COUNT, QUEUE_GAUGE, steps_for};
@@ -21,7 +21,8 @@ pub enum QueueWork {
 // Continues a count of this queue.
 fn count_on(queue: &Queue<u64>, op: LenOp<u64>, tries: u64) -> Worked<QueueWork, Pass<u64>>
     requires { IsCounting queue.now op }
-    ensures { CountTried queue.now (begun_of (machine_of queue.now) op.pass) result }
+    ensures tried { CountTried queue.now (begun_of (machine_of queue.now) op.pass) result }
+    ensures took { WorkedAtMost (count_steps tries) (pass_in op.pass) result }
 {
     match op.run_for(queue, steps_for(QUEUE_COUNT, tries)) {
         Stepped::Again(op) => Worked::Again(QueueWork::Count(op)),
@@ -32,7 +33,8 @@ fn count_on(queue: &Queue<u64>, op: LenOp<u64>, tries: u64) -> Worked<QueueWork,
 // Continues a gauge of this queue.
 fn gauge_on(queue: &Queue<u64>, op: GaugeOp<u64>, tries: u64) -> Worked<QueueWork, Pass<u64>>
     requires { IsGauging queue.now op }
-    ensures { GaugeTried queue.now (begun_of (machine_of queue.now) op.pass) result }
+    ensures tried { GaugeTried queue.now (begun_of (machine_of queue.now) op.pass) result }
+    ensures took { WorkedAtMost (gauge_steps tries) (pass_in op.pass) result }
 {
     match op.run_for(queue, steps_for(QUEUE_GAUGE, tries)) {
         Stepped::Again(op) => Worked::Again(QueueWork::Gauge(op)),
@@ -42,7 +44,7 @@ fn gauge_on(queue: &Queue<u64>, op: GaugeOp<u64>, tries: u64) -> Worked<QueueWor
 
 impl BoundedCalls for Queue<u64> {
     ghost use Rattle.lockfree_c.specs.Calls.{Begins};
-    ghost use Rattle.lockfree_c.specs.Queues.{GaugeTried, queue_reading};
+    ghost use Rattle.lockfree_c.specs.Queues.{Gauged, queue_reading};
     ghost use Rattle.ms_queue.specs.Queue.{IsPassOf};
 
     type Root = Root<u64>;
@@ -65,7 +67,7 @@ impl BoundedCalls for Queue<u64> {
 
     ghost reading = { queue_reading };
 
-    ghost gauges = { GaugeTried };
+    ghost gauges = { Gauged };
 
     #[inline]
     fn split_off(&self, parent: &mut Root<u64>) -> Option<Pass<u64>> {
@@ -131,9 +133,9 @@ impl BoundedCalls for Queue<u64> {
 }
 
 impl Counts for Queue<u64> {
-    ghost use Rattle.lockfree_c.specs.Queues.{CountTried};
+    ghost use Rattle.lockfree_c.specs.Queues.{Counted};
 
-    ghost counts = { CountTried };
+    ghost counts = { Counted };
 
     fn count_for(&self, by: Pass<u64>, tries: u64) -> Worked<QueueWork, Pass<u64>> {
         match self.len_at_once(by) {

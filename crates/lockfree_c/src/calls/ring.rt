@@ -1,9 +1,9 @@
 //! A ring's calls, counts and gauges: each makes its fast path and then a bounded number of steps.
-ghost use Rattle.running.specs.Passes.{begun_of};
+ghost use Rattle.running.specs.Passes.{begun_of, pass_in};
 ghost use Rattle.ring_queue.specs.Counting.{IsCounting};
 ghost use Rattle.ring_queue.specs.Gauging.{IsGauging};
 ghost use Rattle.ring_queue.specs.Ring.{machine_of};
-ghost use Rattle.lockfree_c.specs.Rings.{CountTried, GaugeTried};
+ghost use Rattle.lockfree_c.specs.Rings.{CountTried, GaugeTried, WorkedAtMost, count_steps, gauge_steps};
 
 use crate::calls::{BoundedCalls, Counts};
 use crate::steps::{RING_COUNT, RING_GAUGE, steps_for};
@@ -21,7 +21,8 @@ pub enum RingWork {
 // Continues a count of this ring.
 fn count_on(ring: &RingQueue<u64>, op: LenOp<u64>, tries: u64) -> Worked<RingWork, Pass<u64>>
     requires { IsCounting ring.now op }
-    ensures { CountTried ring.now (begun_of (machine_of ring.now) op.pass) result }
+    ensures tried { CountTried ring.now (begun_of (machine_of ring.now) op.pass) result }
+    ensures took { WorkedAtMost (count_steps tries) (pass_in op.pass) result }
 {
     match op.run_for(ring, steps_for(RING_COUNT, tries)) {
         Stepped::Again(op) => Worked::Again(RingWork::Count(op)),
@@ -32,7 +33,8 @@ fn count_on(ring: &RingQueue<u64>, op: LenOp<u64>, tries: u64) -> Worked<RingWor
 // Continues a gauge of this ring.
 fn gauge_on(ring: &RingQueue<u64>, op: GaugeOp<u64>, tries: u64) -> Worked<RingWork, Pass<u64>>
     requires { IsGauging ring.now op }
-    ensures { GaugeTried ring.now (begun_of (machine_of ring.now) op.pass) result }
+    ensures tried { GaugeTried ring.now (begun_of (machine_of ring.now) op.pass) result }
+    ensures took { WorkedAtMost (gauge_steps tries) (pass_in op.pass) result }
 {
     match op.run_for(ring, steps_for(RING_GAUGE, tries)) {
         Stepped::Again(op) => Worked::Again(RingWork::Gauge(op)),
@@ -42,7 +44,7 @@ fn gauge_on(ring: &RingQueue<u64>, op: GaugeOp<u64>, tries: u64) -> Worked<RingW
 
 impl BoundedCalls for RingQueue<u64> {
     ghost use Rattle.lockfree_c.specs.Calls.{Begins};
-    ghost use Rattle.lockfree_c.specs.Rings.{GaugeTried, ring_reading};
+    ghost use Rattle.lockfree_c.specs.Rings.{Gauged, ring_reading};
     ghost use Rattle.ring_queue.specs.Ring.{IsPassOf};
 
     type Root = Root<u64>;
@@ -67,7 +69,7 @@ impl BoundedCalls for RingQueue<u64> {
 
     ghost reading = { ring_reading };
 
-    ghost gauges = { GaugeTried };
+    ghost gauges = { Gauged };
 
     #[inline]
     fn split_off(&self, parent: &mut Root<u64>) -> Option<Pass<u64>> {
@@ -133,9 +135,9 @@ impl BoundedCalls for RingQueue<u64> {
 }
 
 impl Counts for RingQueue<u64> {
-    ghost use Rattle.lockfree_c.specs.Rings.{CountTried};
+    ghost use Rattle.lockfree_c.specs.Rings.{Counted};
 
-    ghost counts = { CountTried };
+    ghost counts = { Counted };
 
     fn count_for(&self, by: Pass<u64>, tries: u64) -> Worked<RingWork, Pass<u64>> {
         count_on(self, self.begin_len(by), tries)

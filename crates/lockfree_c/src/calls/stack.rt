@@ -5,7 +5,8 @@ ghost use Rattle.treiber_stack.specs.Copying.{IsCopying};
 ghost use Rattle.treiber_stack.specs.FoldOp.{IsFolding};
 ghost use Rattle.treiber_stack.specs.RangeTrying.{IsRanging};
 ghost use Rattle.treiber_stack.specs.Stack.{begun_of};
-ghost use Rattle.lockfree_c.specs.Stacks.{CopyTried, FoldTried, RangeTried};
+ghost use Rattle.running.specs.Passes.{pass_in};
+ghost use Rattle.lockfree_c.specs.Stacks.{CopiedOn, FoldTried, RangeTook, RangeTried, WorkedAtMost, bulk_steps};
 
 use crate::calls::BoundedCalls;
 use crate::steps::{STACK_BULK, steps_for};
@@ -29,8 +30,9 @@ pub enum StackWork {
 /// Continues a fold until its next value or its end, or until the tries are used up.
 pub fn fold_on(stack: &Stack<u64>, op: FoldOp<u64>, tries: u64) -> Worked<StackWork, Pass<u64>>
     requires { (front : Front) × (values : List ℕ) × IsFolding stack.now front values op }
-    ensures { (front : Front) (values : List ℕ) → IsFolding stack.now front values op
+    ensures tried { (front : Front) (values : List ℕ) → IsFolding stack.now front values op
         → FoldTried stack.now front values (begun_of stack.now op.pass) result }
+    ensures took { WorkedAtMost (bulk_steps tries) (pass_in op.pass) result }
 {
     match stack.run_fold_for(op, steps_for(STACK_BULK, tries)) {
         FoldMade::Again(op) => Worked::Again(StackWork::Fold(op)),
@@ -47,8 +49,9 @@ pub fn range_on(
     tries: u64,
 ) -> Worked<StackWork, Pass<u64>>
     requires { (vs : List ℕ) × IsRanging stack.now vs values.items op }
-    ensures { (left : List (Option ℕ)) × ((vs : List ℕ) → IsRanging stack.now vs values.items op
+    ensures tried { (left : List (Option ℕ)) × ((vs : List ℕ) → IsRanging stack.now vs values.items op
         → RangeTried stack.now vs (begun_of stack.now op.pass) left result) }
+    ensures took { RangeTook (bulk_steps tries) op result }
 {
     let mut values = values;
     let made = stack.run_range_for(op, &mut values, steps_for(STACK_BULK, tries));
@@ -66,7 +69,7 @@ pub fn copy_on(
     tries: u64,
 ) -> Worked<StackWork, Pass<u64>>
     requires { IsCopying stack.now values.now op }
-    ensures { CopyTried stack.now values.now (begun_of stack.now op.pass) result }
+    ensures { CopiedOn stack.now tries values.now op result }
 {
     match stack.run_copies_for(op, values, steps_for(STACK_BULK, tries)) {
         Stepped::Again(op) => Worked::Again(StackWork::Copy(op)),
@@ -76,7 +79,7 @@ pub fn copy_on(
 
 impl BoundedCalls for Stack<u64> {
     ghost use Rattle.lockfree_c.specs.Calls.{Begins};
-    ghost use Rattle.lockfree_c.specs.Stacks.{GaugeTried, stack_reading};
+    ghost use Rattle.lockfree_c.specs.Stacks.{Gauged, stack_reading};
     ghost use Rattle.treiber_stack.specs.Stack.{IsPassOf};
 
     type Root = Root<u64>;
@@ -99,7 +102,7 @@ impl BoundedCalls for Stack<u64> {
 
     ghost reading = { stack_reading };
 
-    ghost gauges = { GaugeTried };
+    ghost gauges = { Gauged };
 
     #[inline]
     fn split_off(&self, parent: &mut Root<u64>) -> Option<Pass<u64>> {

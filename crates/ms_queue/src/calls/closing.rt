@@ -4,7 +4,7 @@ ghost use Rattle.bounded_model.specs.Laws.{Answers, CloseGives};
 ghost use Rattle.bounded_model.specs.Stepping.{no_step};
 ghost use Rattle.bounded_model.specs.declared.commands.Command.TheVariants.{Close as CloseCall};
 ghost use Rattle.bounded_model.specs.declared.views.Answered.TheVariants.{Close as CloseAnswered};
-ghost use Rattle.running.specs.Kept.{WasRun};
+ghost use Rattle.running.specs.Kept.{HasNewCall, WasRun};
 ghost use Rattle.running.specs.Ops.{underway_of};
 ghost use Rattle.ms_queue.specs.Calls.{is_call};
 ghost use Rattle.ms_queue.specs.Closing.{IsClosing, close_account};
@@ -41,6 +41,7 @@ impl<T> Queue<T> {
         requires { IsPassOf self.now by }
         ensures makes { IsClosing self.now result }
         ensures begun { underway_of (machine_of self.now) result.pass ≡ no_step (pass_in by) }
+        ensures pass { result.pass ≡ by.pass }
     {
         let Pass { pass, .. } = by;
         Op::begin(
@@ -61,6 +62,7 @@ impl<T> Queue<T> {
         ensures answered { Answers (pass_in by) (pass_in result.0) (CloseAnswered result.1) }
         ensures ran { WasRun (machine_of self.now) (close_account self.now.table.shared.key)
             (is_call CloseCall) (pass_in by) result.0 result.1 }
+        ensures new { HasNewCall by result.0 }
     {
         let Op {
             pass,

@@ -1,13 +1,15 @@
 //! How many values a queue holds: by steps, and by a whole call.
-ghost use Rattle.std.specs.Prelude.{◌≡◌};
+ghost use Rattle.std.specs.Prelude.{◌≡◌, ◌≤◌, ◌+◌};
 ghost use Rattle.bounded_model.specs.Laws.{Answers, LenGives};
-ghost use Rattle.bounded_model.specs.Stepping.{no_step};
+ghost use Rattle.bounded_model.specs.Stepping.{MatchStepped, no_step};
 ghost use Rattle.bounded_model.specs.declared.views.Answered.TheVariants.{Len as LenAnswered};
 ghost use Rattle.queue_machine.specs.declared.lines.Answer.TheVariants.{Len as AnswerLen};
 ghost use Rattle.queue_table.specs.declared.operation.Operation.TheVariants.{Len as LenFirst};
 ghost use Rattle.running.specs.Ops.{underway_of};
+ghost use Rattle.running.specs.Passes.{pass_in as pass_now};
 ghost use Rattle.ms_queue.specs.Counting.{IsCounting, LenRan};
 ghost use Rattle.ms_queue.specs.Queue.{IsPassOf, machine_of, pass_in, shape_of};
+ghost use Rattle.running.specs.Kept.{HasNewCall};
 ghost use Rattle.ms_queue.specs.Ran.{WasRun};
 ghost use Rattle.ms_queue.specs.Trying.{LenTried};
 
@@ -51,6 +53,7 @@ impl<T> Queue<T> {
         ensures gives { LenGives (shape_of self.now) (pass_in by) (pass_in result.0) result.1 }
         ensures answered { Answers (pass_in by) (pass_in result.0) (LenAnswered result.1) }
         ensures ran { WasRun self.now LenFirst (pass_in by) result.0 (AnswerLen result.1) }
+        ensures new { HasNewCall by result.0 }
     {
         let Pass { pass, .. } = by;
         let len = Operation::Len;
@@ -70,12 +73,14 @@ impl<T> Queue<T> {
         Op::begin(self, pass, Operation::Len, LenAt::LoadHead)
     }
 
-    /// Counts the values on the fast path alone, as `put_at_once` puts one. The count is from 0 to
-    /// the capacity. The answers are those of `len`.
+    /// Counts the values on the fast path alone, as `put_at_once` puts one. The call makes at most 4
+    /// steps. The count is from 0 to the capacity. The answers are those of `len`.
     #[inline]
     pub fn len_at_once(&self, by: Pass<T>) -> Stepped<LenOp<T>, Pass<T>, u64>
         requires { IsPassOf self.now by }
-        ensures { LenTried self.now (pass_in by) result }
+        ensures gives { LenTried self.now (pass_in by) result }
+        ensures took { MatchStepped result (λ op. (pass_now op.pass).steps ≤ (pass_in by).steps + 4)
+            (λ back answer. (pass_in back).steps ≤ (pass_in by).steps + 4) }
     {
         let len = Operation::Len;
         let first = len_fast(self, by, &len);
@@ -92,7 +97,8 @@ fn len_fast<T>(
 ) -> (running::Pass<T, Line<T>>, Next<LenAt, Answered<u64>>)
     requires named { len.now ≡ LenFirst }
     requires pass { IsPassOf on.now by }
-    ensures { LenRan on.now len.now by.pass result.0 result.1 }
+    ensures ran { LenRan on.now len.now by.pass result.0 result.1 }
+    ensures took { (pass_now result.0).steps ≤ (pass_now by.pass).steps + 4 }
 {
     let Pass { pass, .. } = by;
     let table = &on.table.shared;

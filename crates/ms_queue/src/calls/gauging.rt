@@ -9,6 +9,7 @@ ghost use Rattle.queue_table.specs.declared.operation.Operation.TheVariants.{Gau
 ghost use Rattle.running.specs.Ops.{underway_of};
 ghost use Rattle.ms_queue.specs.Gauging.{GaugeGives, IsGauging};
 ghost use Rattle.ms_queue.specs.Queue.{IsPassOf, limit_of, machine_of, pass_in, room_of};
+ghost use Rattle.running.specs.Kept.{HasNewCall};
 ghost use Rattle.ms_queue.specs.Ran.{WasRun};
 
 use crate::call_parts::seeking::{End, Seek, seek_access, seek_on};
@@ -57,6 +58,7 @@ impl<T> Queue<T> {
             (GaugeAnswered result.1.closed result.1.used) }
         ensures ran { WasRun self.now GaugeFirst (pass_in by) result.0
             (AnswerGauge result.1.closed result.1.used) }
+        ensures new { HasNewCall by result.0 }
     {
         let Pass { pass, .. } = by;
         let gauge = Operation::Gauge;

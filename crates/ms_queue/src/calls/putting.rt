@@ -1,11 +1,12 @@
 //! Putting one value: by steps, and by a whole call. While the put has a cell, the value is in the
 //! cell's slot, and a snapshot shows it to proofs.
-ghost use Rattle.std.specs.Prelude.{◌≡◌, ◌≤◌};
+ghost use Rattle.std.specs.Prelude.{◌≡◌, ◌≤◌, ◌+◌};
 ghost use Rattle.bounded_model.specs.Laws.{Answers, PutGives, put_answered};
-ghost use Rattle.bounded_model.specs.Stepping.{no_step};
+ghost use Rattle.bounded_model.specs.Stepping.{MatchStepped, no_step};
 ghost use Rattle.bounded_model.specs.declared.commands.Command.TheVariants.{Put as PutCall};
-ghost use Rattle.running.specs.Kept.{WasRun};
+ghost use Rattle.running.specs.Kept.{HasNewCall, WasRun};
 ghost use Rattle.running.specs.Ops.{underway_of};
+ghost use Rattle.running.specs.Passes.{pass_in as pass_now};
 ghost use Rattle.tagged_index.specs.Fields.{number};
 ghost use Rattle.tagged_index.specs.declared.word.TheConstants.{MAX_TAG};
 ghost use Rattle.queue_machine.specs.Machine.{null_word};
@@ -128,6 +129,7 @@ impl<T> Queue<T> {
         ensures answered { Answers (pass_in by) (pass_in result.0) (put_answered result.1) }
         ensures ran { WasRun (machine_of self.now) (put_account self.now.table.shared.key)
             (is_call (PutCall value)) (pass_in by) result.0 result.1 }
+        ensures new { HasNewCall by result.0 }
     {
         let put = put_operation(&value);
         // Looked at here, before a call copies it, so that the answer need not go through memory.
@@ -138,8 +140,8 @@ impl<T> Queue<T> {
     }
 
     /// Puts a value on the fast path alone, with a wait of at most 640 spin hints if a
-    /// compare-and-swap failed. If this does not end the put, it comes back under way. The answers
-    /// are those of `put`.
+    /// compare-and-swap failed. If this does not end the put, it comes back under way. The call
+    /// makes at most 14 steps. The answers are those of `put`.
     #[inline(always)]
     pub fn put_at_once(
         &self,
@@ -147,7 +149,9 @@ impl<T> Queue<T> {
         value: T,
     ) -> Stepped<PutOp<T>, Pass<T>, Result<u64, PutRefused<T>>>
         requires { IsPassOf self.now by }
-        ensures { PutTried self.now value (pass_in by) result }
+        ensures gives { PutTried self.now value (pass_in by) result }
+        ensures took { MatchStepped result (λ op. (pass_now op.pass).steps ≤ (pass_in by).steps + 14)
+            (λ back answer. (pass_in back).steps ≤ (pass_in by).steps + 14) }
     {
         let put = put_operation(&value);
         match put_fast(self, by, value, &put) {

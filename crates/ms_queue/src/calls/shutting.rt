@@ -4,7 +4,7 @@ ghost use Rattle.bounded_model.specs.Laws.{Answers, ShutGives};
 ghost use Rattle.bounded_model.specs.Stepping.{no_step};
 ghost use Rattle.bounded_model.specs.declared.commands.Command.TheVariants.{Shut as ShutCall};
 ghost use Rattle.bounded_model.specs.declared.views.Answered.TheVariants.{Shut as ShutAnswered};
-ghost use Rattle.running.specs.Kept.{WasRun};
+ghost use Rattle.running.specs.Kept.{HasNewCall, WasRun};
 ghost use Rattle.running.specs.Ops.{underway_of};
 ghost use Rattle.ms_queue.specs.Calls.{is_call};
 ghost use Rattle.ms_queue.specs.Shutting.{IsShutting, shut_account};
@@ -40,6 +40,7 @@ impl<T> Queue<T> {
         requires { IsPassOf self.now by }
         ensures makes { IsShutting self.now result }
         ensures begun { underway_of (machine_of self.now) result.pass ≡ no_step (pass_in by) }
+        ensures pass { result.pass ≡ by.pass }
     {
         let Pass { pass, .. } = by;
         Op::begin(self, pass, Operation::Shut, ShutAt::LoadHead)
@@ -55,6 +56,7 @@ impl<T> Queue<T> {
         ensures answered { Answers (pass_in by) (pass_in result.0) (ShutAnswered result.1) }
         ensures ran { WasRun (machine_of self.now) (shut_account self.now.table.shared.key)
             (is_call ShutCall) (pass_in by) result.0 result.1 }
+        ensures new { HasNewCall by result.0 }
     {
         let Op {
             pass,

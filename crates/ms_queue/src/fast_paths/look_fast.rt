@@ -1,7 +1,8 @@
 //! A look's fast path: its three loads, the steps of `next` in `looking.rt`, repeated for the reason
 //! that `put_fast` gives. Change `next` first.
-ghost use Rattle.std.specs.Prelude.{◌≡◌};
+ghost use Rattle.std.specs.Prelude.{◌≡◌, ◌≤◌, ◌+◌};
 ghost use Rattle.queue_table.specs.declared.operation.Operation.TheVariants.{Look as LookFirst};
+ghost use Rattle.running.specs.Passes.{pass_in};
 ghost use Rattle.ms_queue.specs.Looking.{LookRan};
 ghost use Rattle.ms_queue.specs.Queue.{IsPassOf};
 
@@ -20,7 +21,8 @@ pub(crate) fn look_fast<T>(
 ) -> (running::Pass<T, Line<T>>, Next<LookAt, Answered<bool>>)
     requires named { look.now ≡ LookFirst }
     requires pass { IsPassOf on.now by }
-    ensures { LookRan on.now look.now by.pass result.0 result.1 }
+    ensures ran { LookRan on.now look.now by.pass result.0 result.1 }
+    ensures took { (pass_in result.0).steps ≤ (pass_in by.pass).steps + 3 }
 {
     let Pass { pass, .. } = by;
     let table = &on.table.shared;

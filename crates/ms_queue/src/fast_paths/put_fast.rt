@@ -2,7 +2,8 @@
 //! repeats them since a loop over states keeps its state in memory; change `next` first. It is cut
 //! in parts of three steps: the compiler would not keep longer chains in their caller. Its measure
 //! is the number of instructions of a put and a take in turn on one thread.
-ghost use Rattle.std.specs.Prelude.{◌≡◌};
+ghost use Rattle.std.specs.Prelude.{◌≡◌, ◌≤◌, ◌+◌};
+ghost use Rattle.running.specs.Passes.{pass_in};
 ghost use Rattle.ms_queue.specs.Calls.{put_of};
 ghost use Rattle.ms_queue.specs.Putting.{PutStands, PutRan};
 ghost use Rattle.ms_queue.specs.Queue.{IsPassOf};
@@ -30,7 +31,8 @@ pub(crate) fn put_fast<T>(
 )
     requires named { put.now ≡ put_of value }
     requires pass { IsPassOf on.now by }
-    ensures { PutRan on.now put.now by.pass result.0 result.1 }
+    ensures ran { PutRan on.now put.now by.pass result.0 result.1 }
+    ensures took { (pass_in result.0).steps ≤ (pass_in by.pass).steps + 14 }
 {
     let (pass, at) = fast_step!(put_fast_cell(on, by, value, put));
     let PutAt::LoadNodes(shown, cell) = at else {
@@ -55,7 +57,8 @@ fn put_fast_cell<T>(
 )
     requires named { put.now ≡ put_of value }
     requires pass { IsPassOf on.now by }
-    ensures { PutRan on.now put.now by.pass result.0 result.1 }
+    ensures ran { PutRan on.now put.now by.pass result.0 result.1 }
+    ensures took { (pass_in result.0).steps ≤ (pass_in by.pass).steps + 3 }
 {
     let Pass { pass, .. } = by;
     let table = &on.table.shared;
@@ -82,7 +85,8 @@ fn put_fast_refuse<T>(
     Next<PutAt<T>, Answered<Answer<T>>>,
 )
     requires stands { PutStands on.now put.now by no_cell }
-    ensures { PutRan on.now put.now by result.0 result.1 }
+    ensures ran { PutRan on.now put.now by result.0 result.1 }
+    ensures took { (pass_in result.0).steps ≤ (pass_in by).steps + 3 }
 {
     let PutAt::Refusing(value, Seek::LoadTail) = no_cell else {
         return (by, Next::On(no_cell));
@@ -107,7 +111,8 @@ fn put_fast_node<T>(
     Next<PutAt<T>, Answered<Answer<T>>>,
 )
     requires stands { PutStands on.now put.now by (LoadNodes shown cell) }
-    ensures { PutRan on.now put.now by result.0 result.1 }
+    ensures ran { PutRan on.now put.now by result.0 result.1 }
+    ensures took { (pass_in result.0).steps ≤ (pass_in by).steps + 3 }
 {
     let table = &on.table.shared;
     let (pass, shown, cell, nodes) = fast_step!(
@@ -136,7 +141,8 @@ fn put_fast_prepare<T>(
     Next<PutAt<T>, Answered<Answer<T>>>,
 )
     requires stands { PutStands on.now put.now by held }
-    ensures { PutRan on.now put.now by result.0 result.1 }
+    ensures ran { PutRan on.now put.now by result.0 result.1 }
+    ensures took { (pass_in result.0).steps ≤ (pass_in by).steps + 3 }
 {
     let PutAt::StoreCell(shown, held) = held else {
         return (by, Next::On(held));
@@ -162,7 +168,8 @@ fn put_fast_seek<T>(
     Next<PutAt<T>, Answered<Answer<T>>>,
 )
     requires stands { PutStands on.now put.now by prepared }
-    ensures { PutRan on.now put.now by result.0 result.1 }
+    ensures ran { PutRan on.now put.now by result.0 result.1 }
+    ensures took { (pass_in result.0).steps ≤ (pass_in by).steps + 3 }
 {
     let PutAt::Seeking(shown, held, Seek::LoadTail) = prepared else {
         return (by, Next::On(prepared));
@@ -186,7 +193,8 @@ fn put_fast_link<T>(
     Next<PutAt<T>, Answered<Answer<T>>>,
 )
     requires stands { PutStands on.now put.now by there }
-    ensures { PutRan on.now put.now by result.0 result.1 }
+    ensures ran { PutRan on.now put.now by result.0 result.1 }
+    ensures took { (pass_in result.0).steps ≤ (pass_in by).steps + 2 }
 {
     let PutAt::LinkNext(shown, held, tail, link) = there else {
         return (by, Next::On(there));

@@ -1,8 +1,9 @@
 //! A take's fast path: the steps of `next` in `taking.rt`, repeated and cut in parts for the reasons
 //! that `put_fast` gives. Change `next` first. Its measure is the number of instructions of a put and
 //! a take in turn on one thread.
-ghost use Rattle.std.specs.Prelude.{◌≡◌};
+ghost use Rattle.std.specs.Prelude.{◌≡◌, ◌≤◌, ◌+◌};
 ghost use Rattle.queue_table.specs.declared.operation.Operation.TheVariants.{Take as TakeFirst};
+ghost use Rattle.running.specs.Passes.{pass_in};
 ghost use Rattle.ms_queue.specs.Queue.{IsPassOf};
 ghost use Rattle.ms_queue.specs.Taking.{TakeStands, TakeRan};
 
@@ -25,7 +26,8 @@ pub(crate) fn take_fast<T>(
 )
     requires named { take.now ≡ TakeFirst }
     requires pass { IsPassOf on.now by }
-    ensures { TakeRan on.now take.now by.pass result.0 result.1 }
+    ensures ran { TakeRan on.now take.now by.pass result.0 result.1 }
+    ensures took { (pass_in result.0).steps ≤ (pass_in by.pass).steps + 12 }
 {
     let (pass, at) = fast_step!(take_fast_read(on, by, take));
     let (pass, at) = fast_step!(take_fast_head(on, pass, at, take));
@@ -45,7 +47,8 @@ fn take_fast_read<T>(
 )
     requires named { take.now ≡ TakeFirst }
     requires pass { IsPassOf on.now by }
-    ensures { TakeRan on.now take.now by.pass result.0 result.1 }
+    ensures ran { TakeRan on.now take.now by.pass result.0 result.1 }
+    ensures took { (pass_in result.0).steps ≤ (pass_in by.pass).steps + 3 }
 {
     let Pass { pass, .. } = by;
     let table = &on.table.shared;
@@ -73,7 +76,8 @@ fn take_fast_head<T>(
 )
     requires named { take.now ≡ TakeFirst }
     requires stands { TakeStands on.now by read }
-    ensures { TakeRan on.now take.now by result.0 result.1 }
+    ensures ran { TakeRan on.now take.now by result.0 result.1 }
+    ensures took { (pass_in result.0).steps ≤ (pass_in by).steps + 3 }
 {
     let TakeAt::CheckHead(head, tail, link) = read else {
         return (by, Next::On(read));
@@ -103,7 +107,8 @@ fn take_fast_node<T>(
 )
     requires named { take.now ≡ TakeFirst }
     requires stands { TakeStands on.now by won }
-    ensures { TakeRan on.now take.now by result.0 result.1 }
+    ensures ran { TakeRan on.now take.now by result.0 result.1 }
+    ensures took { (pass_in result.0).steps ≤ (pass_in by).steps + 3 }
 {
     let TakeAt::GiveBack(taken, Give::LoadNodes) = won else {
         return (by, Next::On(won));
@@ -128,7 +133,8 @@ fn take_fast_cell<T>(
 )
     requires named { take.now ≡ TakeFirst }
     requires stands { TakeStands on.now by given }
-    ensures { TakeRan on.now take.now by result.0 result.1 }
+    ensures ran { TakeRan on.now take.now by result.0 result.1 }
+    ensures took { (pass_in result.0).steps ≤ (pass_in by).steps + 3 }
 {
     let TakeAt::GiveBack(taken, Give::LoadCells) = given else {
         return (by, Next::On(given));

@@ -1,6 +1,7 @@
 //! The end of a queue.
 ghost use Rattle.bounded_model.specs.Laws.{Leaves};
-ghost use Rattle.running.specs.Ends.{IsRun};
+ghost use Rattle.running.specs.Ends.{IsRun, IsRunAfter};
+ghost use Rattle.running.specs.Kept.{acts_of_root};
 ghost use Rattle.ms_queue.specs.Left.{left_in};
 ghost use Rattle.ms_queue.specs.Queue.{IsRootOf, machine_of, root_in, shape_of};
 
@@ -15,6 +16,8 @@ impl<T> Queue<T> {
         requires { IsRootOf self parent }
         ensures leaves { Leaves (shape_of self) (root_in parent) (left_in result) }
         ensures run { IsRun (machine_of self) (root_in parent) (left_in result) }
+        ensures all { IsRunAfter (machine_of self) (acts_of_root parent) (root_in parent)
+            (left_in result) }
     {
         let Queue { table, .. } = self;
         let Root { root, .. } = parent;

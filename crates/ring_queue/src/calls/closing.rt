@@ -11,7 +11,7 @@ ghost use Rattle.bounded_model.specs.declared.views.Answered.TheVariants.{
   Close as CloseAnswered,
   Shut as ShutAnswered,
 };
-ghost use Rattle.running.specs.Kept.{WasRun};
+ghost use Rattle.running.specs.Kept.{HasNewCall, WasRun};
 ghost use Rattle.running.specs.Ops.{underway_of};
 ghost use Rattle.ring_queue.specs.Calls.{is_call};
 ghost use Rattle.ring_queue.specs.Walking.{full_of, hint_of};
@@ -140,6 +140,7 @@ impl<T> RingQueue<T> {
         requires { IsPassOf self.now by }
         ensures makes { IsClosing self.now result }
         ensures begun { underway_of (machine_of self.now) result.pass ≡ no_step (pass_in by) }
+        ensures pass { result.pass ≡ by.pass }
     {
         let Pass { pass, kept } = by;
         let begun = MarkAt::Walking(Mark::Closed, WalkAt::LoadHint(kept));
@@ -156,6 +157,7 @@ impl<T> RingQueue<T> {
         ensures answered { Answers (pass_in by) (pass_in result.0) (CloseAnswered result.1) }
         ensures ran { WasRun (machine_of self.now) (mark_account self.now.table.shared.key)
             (is_call CloseCall) (pass_in by) result.0 result.1 }
+        ensures new { HasNewCall by result.0 }
     {
         let Op {
             pass,
@@ -172,6 +174,7 @@ impl<T> RingQueue<T> {
         requires { IsPassOf self.now by }
         ensures makes { IsShutting self.now result }
         ensures begun { underway_of (machine_of self.now) result.pass ≡ no_step (pass_in by) }
+        ensures pass { result.pass ≡ by.pass }
     {
         let Pass { pass, kept } = by;
         let begun = MarkAt::Walking(Mark::Shut, WalkAt::LoadHint(kept));
@@ -188,6 +191,7 @@ impl<T> RingQueue<T> {
         ensures answered { Answers (pass_in by) (pass_in result.0) (ShutAnswered result.1) }
         ensures ran { WasRun (machine_of self.now) (mark_account self.now.table.shared.key)
             (is_call ShutCall) (pass_in by) result.0 result.1 }
+        ensures new { HasNewCall by result.0 }
     {
         let Op {
             pass,

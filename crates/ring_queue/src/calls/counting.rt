@@ -7,6 +7,7 @@ ghost use Rattle.ring_machine.specs.declared.lines.Answer.TheVariants.{Len as An
 ghost use Rattle.ring_table.specs.declared.operation.Operation.TheVariants.{Len as LenFirst};
 ghost use Rattle.running.specs.Ops.{underway_of};
 ghost use Rattle.ring_queue.specs.Counting.{IsCounting};
+ghost use Rattle.running.specs.Kept.{HasNewCall};
 ghost use Rattle.ring_queue.specs.Ran.{WasRun};
 ghost use Rattle.ring_queue.specs.Ring.{IsPassOf, machine_of, pass_in, shape_of};
 
@@ -45,6 +46,7 @@ impl<T> RingQueue<T> {
         ensures gives { LenGives (shape_of self.now) (pass_in by) (pass_in result.0) result.1 }
         ensures answered { Answers (pass_in by) (pass_in result.0) (LenAnswered result.1) }
         ensures ran { WasRun self.now LenFirst (pass_in by) result.0 (AnswerLen result.1) }
+        ensures new { HasNewCall by result.0 }
     {
         let Pass { pass, kept } = by;
         let len = Operation::Len;

@@ -7,6 +7,7 @@ ghost use Rattle.ring_machine.specs.declared.lines.Answer.TheVariants.{Gauge as 
 ghost use Rattle.ring_table.specs.declared.operation.Operation.TheVariants.{Gauge as GaugeFirst};
 ghost use Rattle.running.specs.Ops.{underway_of};
 ghost use Rattle.ring_queue.specs.Gauging.{GaugeGives, IsGauging};
+ghost use Rattle.running.specs.Kept.{HasNewCall};
 ghost use Rattle.ring_queue.specs.Ran.{WasRun};
 ghost use Rattle.ring_queue.specs.Ring.{IsPassOf, laps_of, machine_of, pass_in, room_of};
 
@@ -51,6 +52,7 @@ impl<T> RingQueue<T> {
         ensures answered { Answers (pass_in by) (pass_in result.0)
             (GaugeAnswered result.1.closed result.1.used) }
         ensures ran { WasRun self.now GaugeFirst (pass_in by) result.0 (AnswerGauge result.1.closed result.1.used) }
+        ensures new { HasNewCall by result.0 }
     {
         let Pass { pass, kept } = by;
         let gauge = Operation::Gauge;

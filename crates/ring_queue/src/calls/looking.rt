@@ -1,11 +1,12 @@
 //! Looking whether a ring is empty: by steps, and by a whole call.
-ghost use Rattle.std.specs.Prelude.{◌≡◌};
+ghost use Rattle.std.specs.Prelude.{◌≡◌, ◌≤◌, ◌+◌};
 ghost use Rattle.bounded_model.specs.Laws.{Answers, LookGives};
-ghost use Rattle.bounded_model.specs.Stepping.{no_step};
+ghost use Rattle.bounded_model.specs.Stepping.{MatchStepped, no_step};
 ghost use Rattle.bounded_model.specs.declared.commands.Command.TheVariants.{Look as LookCall};
 ghost use Rattle.bounded_model.specs.declared.views.Answered.TheVariants.{Look as LookAnswered};
-ghost use Rattle.running.specs.Kept.{WasRun};
+ghost use Rattle.running.specs.Kept.{HasNewCall, WasRun};
 ghost use Rattle.running.specs.Ops.{underway_of};
+ghost use Rattle.running.specs.Passes.{pass_in as pass_now};
 ghost use Rattle.ring_queue.specs.Calls.{is_call};
 ghost use Rattle.ring_queue.specs.Looking.{IsLooking, look_account};
 ghost use Rattle.ring_queue.specs.Ring.{IsPassOf, machine_of, pass_in, shape_of};
@@ -59,17 +60,21 @@ impl<T> RingQueue<T> {
         ensures answered { Answers (pass_in by) (pass_in result.0) (LookAnswered result.1) }
         ensures ran { WasRun (machine_of self.now) (look_account self.now.table.shared.key)
             (is_call LookCall) (pass_in by) result.0 result.1 }
+        ensures new { HasNewCall by result.0 }
     {
         let look = Operation::Look;
         let first = look_fast(self, by, &look);
         whole(rt, self, first, look)
     }
 
-    /// Looks on the fast path alone, as `put_at_once` puts. The answers are those of `look`.
+    /// Looks on the fast path alone, as `put_at_once` puts. The call makes at most 9 steps. The
+    /// answers are those of `look`.
     #[inline(always)]
     pub fn look_at_once(&self, by: Pass<T>) -> Stepped<LookOp<T>, Pass<T>, bool>
         requires { IsPassOf self.now by }
-        ensures { LookTried self.now (pass_in by) result }
+        ensures gives { LookTried self.now (pass_in by) result }
+        ensures took { MatchStepped result (λ op. (pass_now op.pass).steps ≤ (pass_in by).steps + 9)
+            (λ back answer. (pass_in back).steps ≤ (pass_in by).steps + 9) }
     {
         let look = Operation::Look;
         let first = look_fast(self, by, &look);

@@ -1,15 +1,16 @@
 //! Taking one value: by steps, and by a whole call.
 ghost use Rattle.bounded_model.specs.Laws.{Answers, TakeGives};
-ghost use Rattle.bounded_model.specs.Stepping.{no_step};
+ghost use Rattle.bounded_model.specs.Stepping.{MatchStepped, no_step};
 ghost use Rattle.bounded_model.specs.declared.commands.Command.TheVariants.{Take as TakeCall};
 ghost use Rattle.bounded_model.specs.declared.views.Answered.TheVariants.{Take as TakeAnswered};
-ghost use Rattle.running.specs.Kept.{WasRun};
+ghost use Rattle.running.specs.Kept.{HasNewCall, WasRun};
 ghost use Rattle.running.specs.Ops.{underway_of};
+ghost use Rattle.running.specs.Passes.{pass_in as pass_now};
 ghost use Rattle.ring_queue.specs.Calls.{is_call};
 ghost use Rattle.ring_queue.specs.Ring.{IsPassOf, machine_of, pass_in, shape_of};
 ghost use Rattle.ring_queue.specs.Taking.{IsTaking, take_account};
 ghost use Rattle.ring_queue.specs.Trying.{TakeTried};
-ghost use Rattle.std.specs.Prelude.{◌≡◌};
+ghost use Rattle.std.specs.Prelude.{◌≡◌, ◌≤◌, ◌+◌};
 ghost use Rattle.ring_queue.specs.Taking.{refusal_at};
 
 use crate::call_parts::walking::{
@@ -94,6 +95,7 @@ impl<T> RingQueue<T> {
         ensures answered { Answers (pass_in by) (pass_in result.0) (TakeAnswered result.1) }
         ensures ran { WasRun (machine_of self.now) (take_account self.now.table.shared.key)
             (is_call TakeCall) (pass_in by) result.0 result.1 }
+        ensures new { HasNewCall by result.0 }
     {
         let take = Operation::Take;
         // Looked at here for the same reason as in `put`.
@@ -103,15 +105,17 @@ impl<T> RingQueue<T> {
         }
     }
 
-    /// Takes a value on the fast path alone, as `put_at_once` puts one. The answers are those of
-    /// `take`.
+    /// Takes a value on the fast path alone, as `put_at_once` puts one. The call makes at most 12
+    /// steps. The answers are those of `take`.
     #[inline(always)]
     pub fn take_at_once(
         &self,
         by: Pass<T>,
     ) -> Stepped<TakeOp<T>, Pass<T>, Result<(T, u64), TakeRefused>>
         requires { IsPassOf self.now by }
-        ensures { TakeTried self.now (pass_in by) result }
+        ensures gives { TakeTried self.now (pass_in by) result }
+        ensures took { MatchStepped result (λ op. (pass_now op.pass).steps ≤ (pass_in by).steps + 12)
+            (λ back answer. (pass_in back).steps ≤ (pass_in by).steps + 12) }
     {
         let take = Operation::Take;
         match take_fast(self, by, &take) {

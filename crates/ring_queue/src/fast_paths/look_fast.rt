@@ -1,8 +1,9 @@
 //! A look's fast path: the load of the hint, and the walk to the front. It repeats what the loop
 //! over steps does, for the reason that `put_fast` gives. Its measure is the number of instructions
 //! of a look at an empty ring.
-ghost use Rattle.std.specs.Prelude.{◌≡◌};
+ghost use Rattle.std.specs.Prelude.{◌≡◌, ◌≤◌, ◌+◌};
 ghost use Rattle.ring_table.specs.declared.operation.Operation.TheVariants.{Look as LookFirst};
+ghost use Rattle.running.specs.Passes.{pass_in};
 ghost use Rattle.ring_queue.specs.Looking.{LookStands, LookRan, slot_loaded};
 ghost use Rattle.ring_queue.specs.Ring.{IsPassOf};
 
@@ -21,7 +22,8 @@ pub(crate) fn look_fast<T>(
 ) -> (running::Pass<T, SeatLine<T>>, Next<LookAt, Answered<bool>>)
     requires named { look.now ≡ LookFirst }
     requires pass { IsPassOf on.now by }
-    ensures { LookRan on.now look.now by.pass result.0 result.1 }
+    ensures ran { LookRan on.now look.now by.pass result.0 result.1 }
+    ensures took { (pass_in result.0).steps ≤ (pass_in by.pass).steps + 9 }
 {
     let Pass { pass, kept: spare } = by;
     let begun = LookAt {
@@ -45,7 +47,8 @@ fn look_fast_walk<T>(
 ) -> (running::Pass<T, SeatLine<T>>, Next<LookAt, Answered<bool>>)
     requires named { look.now ≡ LookFirst }
     requires stands { LookStands on.now by (slot_loaded begun) }
-    ensures { LookRan on.now look.now by result.0 result.1 }
+    ensures ran { LookRan on.now look.now by result.0 result.1 }
+    ensures took { (pass_in result.0).steps ≤ (pass_in by).steps + 8 }
 {
     let mut pass = by;
     let mut walk = begun;

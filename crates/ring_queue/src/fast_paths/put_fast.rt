@@ -4,7 +4,8 @@
 //! memory, and finds out anew before each step what to do. Between two steps here there are only
 //! plain words, which the compiler keeps in registers. Its measure is the number of instructions of
 //! a put and a take in turn on one thread, and of a put to a full ring.
-ghost use Rattle.std.specs.Prelude.{◌≡◌};
+ghost use Rattle.std.specs.Prelude.{◌≡◌, ◌≤◌, ◌+◌};
+ghost use Rattle.running.specs.Passes.{pass_in};
 ghost use Rattle.ring_queue.specs.Calls.{put_of};
 ghost use Rattle.ring_queue.specs.Putting.{PutStands, PutRan};
 ghost use Rattle.ring_queue.specs.Ring.{IsPassOf};
@@ -31,7 +32,8 @@ pub(crate) fn put_fast<T>(
 )
     requires named { put.now ≡ put_of value }
     requires pass { IsPassOf on.now by }
-    ensures { PutRan on.now put.now by.pass result.0 result.1 }
+    ensures ran { PutRan on.now put.now by.pass result.0 result.1 }
+    ensures took { (pass_in result.0).steps ≤ (pass_in by.pass).steps + 11 }
 {
     let Pass { pass, kept: spare } = by;
     let table = &on.table.shared;
@@ -64,7 +66,8 @@ fn put_fast_end<T>(
     Next<PutAt<T>, Answered<Answer<T>>>,
 )
     requires stands { PutStands on.now put.now by there }
-    ensures { PutRan on.now put.now by result.0 result.1 }
+    ensures ran { PutRan on.now put.now by result.0 result.1 }
+    ensures took { (pass_in result.0).steps ≤ (pass_in by).steps + 1 }
 {
     let table = &on.table.shared;
     match there {
@@ -89,7 +92,8 @@ fn put_fast_pass<T>(
     Next<PutAt<T>, Answered<Answer<T>>>,
 )
     requires stands { PutStands on.now put.now by put_there }
-    ensures { PutRan on.now put.now by result.0 result.1 }
+    ensures ran { PutRan on.now put.now by result.0 result.1 }
+    ensures took { (pass_in result.0).steps ≤ (pass_in by).steps + 1 }
 {
     let PutAt::PassTail(shown, walk) = put_there else {
         aside();
@@ -111,7 +115,8 @@ fn put_fast_walk<T>(
     Next<PutAt<T>, Answered<Answer<T>>>,
 )
     requires stands { PutStands on.now put.now by (Walking value (LoadSlot begun)) }
-    ensures { PutRan on.now put.now by result.0 result.1 }
+    ensures ran { PutRan on.now put.now by result.0 result.1 }
+    ensures took { (pass_in result.0).steps ≤ (pass_in by).steps + 8 }
 {
     let mut pass = by;
     let mut shown = value;

@@ -2,8 +2,9 @@
 //! there, and the way of the emptied cell home. It repeats what the loop over steps does, for the
 //! reason that `put_fast` gives. Its measure is the number of instructions of a put and a take in
 //! turn on one thread, and of a take from an empty ring.
-ghost use Rattle.std.specs.Prelude.{◌≡◌};
+ghost use Rattle.std.specs.Prelude.{◌≡◌, ◌≤◌, ◌+◌};
 ghost use Rattle.ring_table.specs.declared.operation.Operation.TheVariants.{Take as TakeFirst};
+ghost use Rattle.running.specs.Passes.{pass_in};
 ghost use Rattle.ring_queue.specs.Ring.{IsPassOf};
 ghost use Rattle.ring_queue.specs.Taking.{TakeStands, TakeRan};
 ghost use Rattle.ring_queue.specs.declared.calls.taking.TakeAt.TheVariants.{Walking};
@@ -27,7 +28,8 @@ pub(crate) fn take_fast<T>(
 )
     requires named { take.now ≡ TakeFirst }
     requires pass { IsPassOf on.now by }
-    ensures { TakeRan on.now take.now by.pass result.0 result.1 }
+    ensures ran { TakeRan on.now take.now by.pass result.0 result.1 }
+    ensures took { (pass_in result.0).steps ≤ (pass_in by.pass).steps + 12 }
 {
     let Pass { pass, kept: spare } = by;
     let table = &on.table.shared;
@@ -62,7 +64,8 @@ fn take_fast_walk<T>(
 )
     requires named { take.now ≡ TakeFirst }
     requires stands { TakeStands on.now by (Walking (LoadSlot begun)) }
-    ensures { TakeRan on.now take.now by result.0 result.1 }
+    ensures ran { TakeRan on.now take.now by result.0 result.1 }
+    ensures took { (pass_in result.0).steps ≤ (pass_in by).steps + 8 }
 {
     let mut pass = by;
     let mut walk = begun;
@@ -98,7 +101,8 @@ fn take_fast_exchange<T>(
 )
     requires named { take.now ≡ TakeFirst }
     requires stands { TakeStands on.now by there }
-    ensures { TakeRan on.now take.now by result.0 result.1 }
+    ensures ran { TakeRan on.now take.now by result.0 result.1 }
+    ensures took { (pass_in result.0).steps ≤ (pass_in by).steps + 1 }
 {
     let TakeAt::Exchange(end) = there else {
         aside();
@@ -120,7 +124,8 @@ fn take_fast_pass<T>(
 )
     requires named { take.now ≡ TakeFirst }
     requires stands { TakeStands on.now by taken }
-    ensures { TakeRan on.now take.now by result.0 result.1 }
+    ensures ran { TakeRan on.now take.now by result.0 result.1 }
+    ensures took { (pass_in result.0).steps ≤ (pass_in by).steps + 1 }
 {
     let TakeAt::PassHead(walk, value) = taken else {
         return (by, Next::On(taken));

@@ -1,6 +1,7 @@
 //! The end of a ring.
 ghost use Rattle.bounded_model.specs.Laws.{Leaves};
-ghost use Rattle.running.specs.Ends.{IsRun};
+ghost use Rattle.running.specs.Ends.{IsRun, IsRunAfter};
+ghost use Rattle.running.specs.Kept.{acts_of_root};
 ghost use Rattle.ring_queue.specs.Leaving.{left_in};
 ghost use Rattle.ring_queue.specs.Ring.{shape_of, machine_of};
 ghost use Rattle.ring_queue.specs.Roots.{IsRootOf, root_in};
@@ -16,6 +17,8 @@ impl<T> RingQueue<T> {
         requires { IsRootOf self parent }
         ensures leaves { Leaves (shape_of self) (root_in parent) (left_in result) }
         ensures run { IsRun (machine_of self) (root_in parent) (left_in result) }
+        ensures all { IsRunAfter (machine_of self) (acts_of_root parent) (root_in parent)
+            (left_in result) }
     {
         let capacity = self.limits.capacity();
         let RingQueue { table, .. } = self;

@@ -11,7 +11,7 @@ use std::snapshot::Snapshot;
 /// A source of the values of a range. They leave it from the front on, and come back if the range
 /// is refused, the last first.
 pub(crate) trait Source<T> {
-    // The first so many of these values have left it.
+    // So many of these values, the first ones, have left it.
     ghost left: { Self → List T → ℕ → Type 0 };
 
     // What stays the same of it: the borrow by which it has the values.

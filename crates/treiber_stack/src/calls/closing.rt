@@ -10,7 +10,7 @@ ghost use Rattle.bounded_model.specs.declared.views.Answered.TheVariants.{
   Close as CloseAnswered,
   Shut as ShutAnswered,
 };
-ghost use Rattle.running.specs.Kept.{WasRun};
+ghost use Rattle.running.specs.Kept.{HasNewCall, WasRun};
 ghost use Rattle.running.specs.Ops.{underway_of};
 ghost use Rattle.tagged_index.specs.Fields.{fields_of};
 ghost use Rattle.treiber_stack.specs.Calls.{is_call};
@@ -101,6 +101,7 @@ impl<T> Stack<T> {
         requires { IsPassOf self.now by }
         ensures makes { IsClosing self.now result }
         ensures begun { underway_of (machine_of self.now) result.pass ≡ no_step (pass_in by) }
+        ensures pass { result.pass ≡ by.pass }
     {
         let Pass { pass, .. } = by;
         Op::begin(self, pass, Operation::Close, MarkAt::Load(Mark::Closed))
@@ -116,6 +117,7 @@ impl<T> Stack<T> {
         ensures answered { Answers (pass_in by) (pass_in result.0) (CloseAnswered result.1) }
         ensures ran { WasRun (machine_of self.now) (mark_account self.now.table.shared.key)
             (is_call CloseCall) (pass_in by) result.0 result.1 }
+        ensures new { HasNewCall by result.0 }
     {
         let Op {
             pass,
@@ -131,6 +133,7 @@ impl<T> Stack<T> {
         requires { IsPassOf self.now by }
         ensures makes { IsShutting self.now result }
         ensures begun { underway_of (machine_of self.now) result.pass ≡ no_step (pass_in by) }
+        ensures pass { result.pass ≡ by.pass }
     {
         let Pass { pass, .. } = by;
         Op::begin(self, pass, Operation::Shut, MarkAt::Load(Mark::Shut))
@@ -146,6 +149,7 @@ impl<T> Stack<T> {
         ensures answered { Answers (pass_in by) (pass_in result.0) (ShutAnswered result.1) }
         ensures ran { WasRun (machine_of self.now) (mark_account self.now.table.shared.key)
             (is_call ShutCall) (pass_in by) result.0 result.1 }
+        ensures new { HasNewCall by result.0 }
     {
         let Op {
             pass,

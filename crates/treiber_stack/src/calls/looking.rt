@@ -1,11 +1,12 @@
 //! Looking whether a stack is empty: one load of its top. By steps, and by a whole call.
-ghost use Rattle.std.specs.Prelude.{◌≡◌};
+ghost use Rattle.std.specs.Prelude.{◌≡◌, ◌≤◌, ◌+◌};
 ghost use Rattle.bounded_model.specs.Laws.{Answers, LookGives};
-ghost use Rattle.bounded_model.specs.Stepping.{no_step};
+ghost use Rattle.bounded_model.specs.Stepping.{MatchStepped, no_step};
 ghost use Rattle.bounded_model.specs.declared.commands.Command.TheVariants.{Look as LookCall};
 ghost use Rattle.bounded_model.specs.declared.views.Answered.TheVariants.{Look as LookAnswered};
-ghost use Rattle.running.specs.Kept.{WasRun as WasRunBy};
+ghost use Rattle.running.specs.Kept.{HasNewCall, WasRun as WasRunBy};
 ghost use Rattle.running.specs.Ops.{underway_of};
+ghost use Rattle.running.specs.Passes.{pass_in as pass_now};
 ghost use Rattle.stack_machine.specs.Machine.{ends};
 ghost use Rattle.stack_machine.specs.declared.lines.Answer.TheVariants.{Look as Looked};
 ghost use Rattle.stack_machine.specs.declared.lines.Line.TheVariants.{LoadTopToLook};
@@ -58,6 +59,7 @@ impl<T> Stack<T> {
             (ends (Looked result.1)) }
         ensures answered { Answers (pass_in by) (pass_in result.0) (LookAnswered result.1) }
         ensures ran { WasRun self.now LookFirst (pass_in by) result.0 (Looked result.1) }
+        ensures new { HasNewCall by result.0 }
     {
         let Pass { pass, kept } = by;
         let (pass, empty) = look_once(self, pass, &Operation::Look);
@@ -86,6 +88,7 @@ impl<T> Stack<T> {
         ensures answered { Answers (pass_in by) (pass_in result.0) (LookAnswered result.1) }
         ensures ran { WasRunBy (machine_of self.now) (look_account self.now.table.shared.key)
             (is_call LookCall) (pass_in by) result.0 result.1 }
+        ensures new { HasNewCall by result.0 }
     {
         let Pass { pass, .. } = by;
         let look = Operation::Look;
@@ -93,11 +96,14 @@ impl<T> Stack<T> {
         whole(rt, self, first, look)
     }
 
-    /// Looks on the fast path alone, as `put_at_once` puts. The answers are those of `look`.
+    /// Looks on the fast path alone, as `put_at_once` puts. The call makes at most 1 step. The
+    /// answers are those of `look`.
     #[inline(always)]
     pub fn look_at_once(&self, by: Pass<T>) -> Stepped<LookOp<T>, Pass<T>, bool>
         requires { IsPassOf self.now by }
-        ensures { LookTried self.now (pass_in by) result }
+        ensures gives { LookTried self.now (pass_in by) result }
+        ensures took { MatchStepped result (λ op. (pass_now op.pass).steps ≤ (pass_in by).steps + 1)
+            (λ back answer. (pass_in back).steps ≤ (pass_in by).steps + 1) }
     {
         let Pass { pass, .. } = by;
         let look = Operation::Look;
@@ -115,7 +121,8 @@ fn look_fast<T>(
 ) -> (running::Pass<T, Line<T>>, Next<LookAt, Answered<bool>>)
     requires named { look.now ≡ LookFirst }
     requires pass { IsSeatOf on.now by }
-    ensures { LookRan on.now look.now by result.0 result.1 }
+    ensures ran { LookRan on.now look.now by result.0 result.1 }
+    ensures took { (pass_now result.0).steps ≤ (pass_now by).steps + 1 }
 {
     let (pass, reply) = look_once(on, by, look);
     (pass, Next::Done(Answered { kept: (), reply }))

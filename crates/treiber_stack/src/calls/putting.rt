@@ -1,11 +1,12 @@
 //! Putting one value: by steps, and by a whole call. While the put has a node, the value is in the node's slot, and a
 //! snapshot shows it to proofs.
-ghost use Rattle.std.specs.Prelude.{◌≡◌};
+ghost use Rattle.std.specs.Prelude.{◌≡◌, ◌≤◌, ◌+◌};
 ghost use Rattle.bounded_model.specs.Laws.{Answers, PutGives, put_answered};
-ghost use Rattle.bounded_model.specs.Stepping.{no_step};
+ghost use Rattle.bounded_model.specs.Stepping.{MatchStepped, no_step};
 ghost use Rattle.bounded_model.specs.declared.commands.Command.TheVariants.{Put as PutCall};
-ghost use Rattle.running.specs.Kept.{WasRun};
+ghost use Rattle.running.specs.Kept.{HasNewCall, WasRun};
 ghost use Rattle.running.specs.Ops.{underway_of};
+ghost use Rattle.running.specs.Passes.{pass_in as pass_now};
 ghost use Rattle.treiber_stack.specs.Calls.{is_call, put_of};
 ghost use Rattle.treiber_stack.specs.Putting.{IsPutting, put_account};
 ghost use Rattle.treiber_stack.specs.Stack.{IsPassOf, machine_of, pass_in, shape_of};
@@ -98,6 +99,7 @@ impl<T> Stack<T> {
         ensures answered { Answers (pass_in by) (pass_in result.0) (put_answered result.1) }
         ensures ran { WasRun (machine_of self.now) (put_account self.now.table.shared.key)
             (is_call (PutCall value)) (pass_in by) result.0 result.1 }
+        ensures new { HasNewCall by result.0 }
     {
         let Pass { pass, .. } = by;
         let put = put_operation(&value);
@@ -109,8 +111,8 @@ impl<T> Stack<T> {
     }
 
     /// Puts a value on the fast path alone, with a wait of at most 640 spin hints if a
-    /// compare-and-swap failed. If this does not end the put, it comes back under way. The answers
-    /// are those of `put`.
+    /// compare-and-swap failed. If this does not end the put, it comes back under way. The call
+    /// makes at most 6 steps. The answers are those of `put`.
     #[inline(always)]
     pub fn put_at_once(
         &self,
@@ -118,7 +120,9 @@ impl<T> Stack<T> {
         value: T,
     ) -> Stepped<PutOp<T>, Pass<T>, Result<u64, PutRefused<T>>>
         requires { IsPassOf self.now by }
-        ensures { PutTried self.now value (pass_in by) result }
+        ensures gives { PutTried self.now value (pass_in by) result }
+        ensures took { MatchStepped result (λ op. (pass_now op.pass).steps ≤ (pass_in by).steps + 6)
+            (λ back answer. (pass_in back).steps ≤ (pass_in by).steps + 6) }
     {
         let Pass { pass, .. } = by;
         let put = put_operation(&value);

@@ -1,11 +1,12 @@
 //! Taking one value: by steps, and by a whole call.
-ghost use Rattle.std.specs.Prelude.{◌≡◌};
+ghost use Rattle.std.specs.Prelude.{◌≡◌, ◌≤◌, ◌+◌};
 ghost use Rattle.bounded_model.specs.Laws.{Answers, TakeGives};
-ghost use Rattle.bounded_model.specs.Stepping.{no_step};
+ghost use Rattle.bounded_model.specs.Stepping.{MatchStepped, no_step};
 ghost use Rattle.bounded_model.specs.declared.commands.Command.TheVariants.{Take as TakeCall};
 ghost use Rattle.bounded_model.specs.declared.views.Answered.TheVariants.{Take as TakeAnswered};
-ghost use Rattle.running.specs.Kept.{WasRun};
+ghost use Rattle.running.specs.Kept.{HasNewCall, WasRun};
 ghost use Rattle.running.specs.Ops.{underway_of};
+ghost use Rattle.running.specs.Passes.{pass_in as pass_now};
 ghost use Rattle.treiber_stack.specs.Calls.{is_call};
 ghost use Rattle.treiber_stack.specs.Stack.{IsPassOf, machine_of, pass_in, shape_of};
 ghost use Rattle.treiber_stack.specs.Taking.{IsTaking, take_account};
@@ -83,6 +84,7 @@ impl<T> Stack<T> {
         ensures answered { Answers (pass_in by) (pass_in result.0) (TakeAnswered result.1) }
         ensures ran { WasRun (machine_of self.now) (take_account self.now.table.shared.key)
             (is_call TakeCall) (pass_in by) result.0 result.1 }
+        ensures new { HasNewCall by result.0 }
     {
         let Pass { pass, .. } = by;
         let take = Operation::Take;
@@ -93,15 +95,17 @@ impl<T> Stack<T> {
         }
     }
 
-    /// Takes a value on the fast path alone, as `put_at_once` puts one. The answers are those of
-    /// `take`.
+    /// Takes a value on the fast path alone, as `put_at_once` puts one. The call makes at most 6
+    /// steps. The answers are those of `take`.
     #[inline(always)]
     pub fn take_at_once(
         &self,
         by: Pass<T>,
     ) -> Stepped<TakeOp<T>, Pass<T>, Result<(T, u64), TakeRefused>>
         requires { IsPassOf self.now by }
-        ensures { TakeTried self.now (pass_in by) result }
+        ensures gives { TakeTried self.now (pass_in by) result }
+        ensures took { MatchStepped result (λ op. (pass_now op.pass).steps ≤ (pass_in by).steps + 6)
+            (λ back answer. (pass_in back).steps ≤ (pass_in by).steps + 6) }
     {
         let Pass { pass, .. } = by;
         let take = Operation::Take;

@@ -3,7 +3,8 @@
 //! in parts of three steps: the compiler would not keep longer chains in their caller. A put that
 //! finds no node free makes one step more, and says why nothing can be put. Its measure is the number
 //! of instructions of a put and a take in turn on one thread.
-ghost use Rattle.std.specs.Prelude.{◌≡◌};
+ghost use Rattle.std.specs.Prelude.{◌≡◌, ◌≤◌, ◌+◌};
+ghost use Rattle.running.specs.Passes.{pass_in};
 ghost use Rattle.treiber_stack.specs.Calls.{put_of};
 ghost use Rattle.treiber_stack.specs.Putting.{PutStands, PutRan};
 ghost use Rattle.treiber_stack.specs.Stack.{IsSeatOf};
@@ -28,7 +29,8 @@ pub(crate) fn put_fast<T>(
 )
     requires named { put.now ≡ put_of value }
     requires pass { IsSeatOf on.now by }
-    ensures { PutRan on.now put.now by result.0 result.1 }
+    ensures ran { PutRan on.now put.now by result.0 result.1 }
+    ensures took { (pass_in result.0).steps ≤ (pass_in by).steps + 6 }
 {
     let (pass, at) = fast_step!(put_fast_node(on, by, value, put));
     match at {
@@ -50,7 +52,8 @@ fn put_fast_node<T>(
 )
     requires named { put.now ≡ put_of value }
     requires pass { IsSeatOf on.now by }
-    ensures { PutRan on.now put.now by result.0 result.1 }
+    ensures ran { PutRan on.now put.now by result.0 result.1 }
+    ensures took { (pass_in result.0).steps ≤ (pass_in by).steps + 3 }
 {
     let table = &on.table.shared;
     let (pass, value, free) = fast_step!(
@@ -76,7 +79,8 @@ fn put_fast_refuse<T>(
     Next<PutAt<T>, Answered<Answer<T>>>,
 )
     requires stands { PutStands on.now put.now by (Refuse value) }
-    ensures { PutRan on.now put.now by result.0 result.1 }
+    ensures ran { PutRan on.now put.now by result.0 result.1 }
+    ensures took { (pass_in result.0).steps ≤ (pass_in by).steps + 1 }
 {
     any(&on.table.shared, on, by, PutAt::Refuse(value), put)
 }
@@ -93,7 +97,8 @@ fn put_fast_top<T>(
     Next<PutAt<T>, Answered<Answer<T>>>,
 )
     requires stands { PutStands on.now put.now by has_node }
-    ensures { PutRan on.now put.now by result.0 result.1 }
+    ensures ran { PutRan on.now put.now by result.0 result.1 }
+    ensures took { (pass_in result.0).steps ≤ (pass_in by).steps + 3 }
 {
     let PutAt::Load(shown, index) = has_node else {
         return (by, Next::On(has_node));

@@ -1,8 +1,9 @@
 //! A take's fast path: the steps of `next` in `taking.rt`, repeated and cut in parts of three for the
 //! reasons that `put_fast` gives. Change `next` first. Its measure is the number of instructions of a
 //! put and a take in turn on one thread.
-ghost use Rattle.std.specs.Prelude.{◌≡◌};
+ghost use Rattle.std.specs.Prelude.{◌≡◌, ◌≤◌, ◌+◌};
 ghost use Rattle.stack_table.specs.declared.operation.Operation.TheVariants.{Take as TakeFirst};
+ghost use Rattle.running.specs.Passes.{pass_in};
 ghost use Rattle.treiber_stack.specs.Stack.{IsSeatOf};
 ghost use Rattle.treiber_stack.specs.Taking.{TakeStands, TakeRan};
 
@@ -25,7 +26,8 @@ pub(crate) fn take_fast<T>(
 )
     requires named { take.now ≡ TakeFirst }
     requires pass { IsSeatOf on.now by }
-    ensures { TakeRan on.now take.now by result.0 result.1 }
+    ensures ran { TakeRan on.now take.now by result.0 result.1 }
+    ensures took { (pass_in result.0).steps ≤ (pass_in by).steps + 6 }
 {
     let (pass, at) = fast_step!(take_fast_top(on, by, take));
     take_fast_back(on, pass, at, take)
@@ -43,7 +45,8 @@ fn take_fast_top<T>(
 )
     requires named { take.now ≡ TakeFirst }
     requires pass { IsSeatOf on.now by }
-    ensures { TakeRan on.now take.now by result.0 result.1 }
+    ensures ran { TakeRan on.now take.now by result.0 result.1 }
+    ensures took { (pass_in result.0).steps ≤ (pass_in by).steps + 3 }
 {
     let table = &on.table.shared;
     let (pass, top) = fast_step!(
@@ -70,7 +73,8 @@ fn take_fast_back<T>(
 )
     requires named { take.now ≡ TakeFirst }
     requires stands { TakeStands on.now by won }
-    ensures { TakeRan on.now take.now by result.0 result.1 }
+    ensures ran { TakeRan on.now take.now by result.0 result.1 }
+    ensures took { (pass_in result.0).steps ≤ (pass_in by).steps + 3 }
 {
     let TakeAt::GiveBack(taken, Give::Load) = won else {
         return (by, Next::On(won));

@@ -49,7 +49,7 @@ act-requires g c κs =
       fits = is_for r.shape.order name.0 what allowed;
     } in
     let b = c.type_bounds in
-    (b.send-C-Op, (b.send-C-Root, (b.send-C-Pass, (b.send-C-Note, (b.send-C-Rest, ((refl, tt), ((i.playing.0, i.playing.1), rw c.turn_to.ensures.pass fit)))))))
+    (b.send-C-Op, (b.send-C-Root, (b.send-C-Pass, (b.send-C-Note, (b.send-C-Rest, ((refl, tt), record { on = (i.playing.0, i.playing.1); fit = rw c.turn_to.ensures.pass fit }))))))
 
 pub loop-line-preserved : goal.loop-line-preserved
 loop-line-preserved g c =

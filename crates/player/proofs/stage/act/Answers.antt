@@ -9,7 +9,7 @@ use Rattle.player.proofs.stage.act.Goals as goal
 pub meet-requires : goal.meet-requires
 meet-requires g c κs =
     let b = c.type_bounds in
-    (passed _ _ _ g.row.C-Op b.send-C-Op, (passed _ _ _ g.row.C-Root b.send-C-Root, (passed _ _ _ g.row.C-Pass b.send-C-Pass, (passed _ _ _ g.row.C-Note b.send-C-Note, (passed _ _ _ g.row.C-Rest b.send-C-Rest, ((refl, tt), (c.requires.0, (c.requires.1.small, c.requires.1.another c.in-Meet.other c.in-Meet.is))))))))
+    (passed _ _ _ g.row.C-Op b.send-C-Op, (passed _ _ _ g.row.C-Root b.send-C-Root, (passed _ _ _ g.row.C-Pass b.send-C-Pass, (passed _ _ _ g.row.C-Note b.send-C-Note, (passed _ _ _ g.row.C-Rest b.send-C-Rest, ((refl, tt), (c.requires.on, (c.requires.fit.small, c.requires.fit.another c.in-Meet.other c.in-Meet.is))))))))
 
 pub returns-in-Meet-clause-acts : goal.returns-in-Meet-clause-acts
 returns-in-Meet-clause-acts g c world on = rw c.in-Meet.is (c.meet.ensures.meets world on)

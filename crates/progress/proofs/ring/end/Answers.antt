@@ -8,9 +8,10 @@ pub returns-clause-run : goal.returns-clause-run
 returns-clause-run g c =
     let ring = c.args.ring in
     let limits = ring.table.shared.key in
-    let run = c.finish.ensures.run in
+    let run = c.finish.ensures.all.run in
     record {
       run = run;
+      extends = c.finish.ensures.all.extends;
       linearizable = linearizable (room_of ring) (laps_of ring) (passes_of ring) run.acts (let e = limits.some_capacity in omega arith) run.allowed run.fresh;
       work = λ nobody. total_work (room_of ring) (laps_of ring) (passes_of ring) (let e = limits.some_capacity in omega arith) _ _ run c.requires.on.sound nobody;
     }

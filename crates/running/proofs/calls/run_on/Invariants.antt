@@ -1,6 +1,6 @@
 use Rattle.std.proofs.Common.{◌≡◌}
 use Rattle.running.specs.Code.{Tells}
-use Rattle.running.specs.Passes.{begun_of}
+use Rattle.running.specs.Passes.{Since}
 use Rattle.running.specs.Steps.{Stands}
 use Rattle.running.specs.declared.code.Next.TheVariants.{On}
 use Rattle.running.proofs.calls.run_on.Given as goal
@@ -12,5 +12,5 @@ invariant-loop g l =
     let m = g.M.Machine.machine key in
     (goal.iterator-loop g).can_next l.iterator' × (goal.iterator-loop g).is_finite l.iterator'
     × Stands m s (g.C.OnTable.id l.fn.on) l.pass l.at
-    × (l.fn.operation ≡ s.operation l.at) × (begun_of m l.pass ≡ begun_of m l.fn.by)
+    × (l.fn.operation ≡ s.operation l.at) × Since m l.fn.by l.pass
     × Tells s.told l.fn.under_way (On l.at)

@@ -52,3 +52,10 @@ returns-clause-lines g c =
     let v = heed_view m.core.shape g.M.Machine.names.shares (g.M.Machine.names.quiet (line_in g.M.Machine.names c.args.by.now.seat.me.0)) c.args.by.now.seat.me.0 c.args.note.seat.me.0 c.join_seats.new.seat.me.0 c.look_round.new.seat.me.0 c.split_seat.new.seat.me.0
     c.requires.pass.rests.view c.requires.note.view (ap (λ m. m.0) c.join_seats.ensures.both) c.look_round.ensures.looks (ap (λ m. m.0) c.split_seat.ensures.left) in
     rests_still m c.args.by.now.seat.me.0 c.split_seat.new.seat.me.0 c.requires.pass.rests.view v.pass
+
+pub returns-clause-acts : goal.returns-clause-acts
+returns-clause-acts g c =
+    let m = g.M.Machine.machine c.args.table.now.key in
+    let v = heed_view m.core.shape g.M.Machine.names.shares (g.M.Machine.names.quiet (line_in g.M.Machine.names c.args.by.now.seat.me.0)) c.args.by.now.seat.me.0 c.args.note.seat.me.0 c.join_seats.new.seat.me.0 c.look_round.new.seat.me.0 c.split_seat.new.seat.me.0
+    c.requires.pass.rests.view c.requires.note.view (ap (λ m. m.0) c.join_seats.ensures.both) c.look_round.ensures.looks (ap (λ m. m.0) c.split_seat.ensures.left) in
+    v.acts

@@ -12,11 +12,11 @@ pub join_seats-requires-clause-empty : goal.join_seats-requires-clause-empty
 join_seats-requires-clause-empty g c = c.requires.pass.rests.slots
 
 pub join_seats-requires-clause-may : goal.join_seats-requires-clause-may
-join_seats-requires-clause-may g c = unites_root (g.M.Machine.machine c.args.table.now.key) c.args.parent.now.seat.me.0 c.args.by.seat.me.0 _ c.args.parent.now.out c.requires.root.view c.requires.root.stock c.requires.pass.rests.view
+join_seats-requires-clause-may g c = unites_root (g.M.Machine.machine c.args.table.now.key) c.args.parent.now.seat.me.0 c.args.by.seat.me.0 _ _ c.args.parent.now.out c.requires.root.view c.requires.root.stock c.requires.pass.rests.view
 
 pub look_round-requires-clause-may : goal.look_round-requires-clause-may
 look_round-requires-clause-may g c =
-    looks_root (g.M.Machine.machine c.args.table.now.key) c.args.parent.now.seat.me.0 c.args.by.seat.me.0 c.join_seats.new.seat.me.0 (root_in c.args.parent.now) c.requires.root.view c.requires.pass.rests.view (ap (λ m. m.0) c.join_seats.ensures.both)
+    looks_root (g.M.Machine.machine c.args.table.now.key) c.args.parent.now.seat.me.0 c.args.by.seat.me.0 c.join_seats.new.seat.me.0 (root_in c.args.parent.now) _ c.requires.root.view c.requires.pass.rests.view (ap (λ m. m.0) c.join_seats.ensures.both)
 
 pub overflow_sub-parent : goal.overflow_sub-parent
 overflow_sub-parent g c =
@@ -54,7 +54,7 @@ returns-clause-gives g c =
     v.gives
 
 pub join_seats-requires-clause-owns : goal.join_seats-requires-clause-owns
-join_seats-requires-clause-owns g c = root_takes (g.M.Machine.machine c.args.table.now.key) c.args.parent.now.seat.me.0 c.args.by.seat.me.0 _ _ _ _ _ c.requires.root.view c.requires.pass.rests.view
+join_seats-requires-clause-owns g c = root_takes (g.M.Machine.machine c.args.table.now.key) c.args.parent.now.seat.me.0 c.args.by.seat.me.0 _ _ _ _ _ _ c.requires.root.view c.requires.pass.rests.view
 
 pub returns-clause-lines : goal.returns-clause-lines
 returns-clause-lines g c =
@@ -63,3 +63,9 @@ returns-clause-lines g c =
     let line = line_in names c.args.parent.now.seat.me.0 in
     let v = join_view m.core.shape names.shares line (names.quiet (line_in names c.args.by.seat.me.0)) c.args.parent.now.seat.me.0 c.args.by.seat.me.0 c.join_seats.new.seat.me.0 c.look_round.new.seat.me.0 c.requires.root.view c.requires.pass.rests.view (ap (λ m. m.0) c.join_seats.ensures.both) c.look_round.ensures.looks in
     v.line ∙ sym (ap (names.shares.takes line) (ap (line_in names) c.requires.pass.rests.view))
+
+pub returns-clause-acts : goal.returns-clause-acts
+returns-clause-acts g c =
+    let m = g.M.Machine.machine c.args.table.now.key in
+    let v = join_view m.core.shape g.M.Machine.names.shares (line_in g.M.Machine.names c.args.parent.now.seat.me.0) (g.M.Machine.names.quiet (line_in g.M.Machine.names c.args.by.seat.me.0)) c.args.parent.now.seat.me.0 c.args.by.seat.me.0 c.join_seats.new.seat.me.0 c.look_round.new.seat.me.0 c.requires.root.view c.requires.pass.rests.view (ap (λ m. m.0) c.join_seats.ensures.both) c.look_round.ensures.looks in
+    v.acts

@@ -34,3 +34,10 @@ returns-clause-lines g c =
     let e = c.split_seat-seat.ensures in
     let v = note_view g.M.Machine.names.shares (g.M.Machine.names.quiet (line_in g.M.Machine.names c.args.by.now.seat.me.0)) c.args.by.now.seat.me.0 c.split_seat-seat.new.seat.me.0 c.split_seat-seat.result.me.0 c.requires.pass.rests.view (ap (λ m. m.0) e.left) (ap (λ m. m.0) e.right) in
     rests_still m c.args.by.now.seat.me.0 c.split_seat-seat.new.seat.me.0 c.requires.pass.rests.view v.pass
+
+pub returns-clause-acts : goal.returns-clause-acts
+returns-clause-acts g c =
+    let m = g.M.Machine.machine c.args.table.now.key in
+    let e = c.split_seat-seat.ensures in
+    let v = note_view g.M.Machine.names.shares (g.M.Machine.names.quiet (line_in g.M.Machine.names c.args.by.now.seat.me.0)) c.args.by.now.seat.me.0 c.split_seat-seat.new.seat.me.0 c.split_seat-seat.result.me.0 c.requires.pass.rests.view (ap (λ m. m.0) e.left) (ap (λ m. m.0) e.right) in
+    v.acts

@@ -72,3 +72,11 @@ returns-clause-lines g c =
       rests_still m c.args.first.now.seat.me.0 c.split_seat-seat.new.seat.me.0 c.requires.first.rests.view v.first,
       rests_still m c.args.second.seat.me.0 c.split_seat-seat.result.me.0 c.requires.second.rests.view v.second,
     )
+
+pub returns-clause-acts : goal.returns-clause-acts
+returns-clause-acts g c =
+    let m = g.M.Machine.machine c.args.table.now.key in
+    let e = c.split_seat-seat.ensures in
+    let v = meet_view m.core.shape g.M.Machine.names.shares (g.M.Machine.names.quiet (line_in g.M.Machine.names c.args.first.now.seat.me.0)) (g.M.Machine.names.quiet (line_in g.M.Machine.names c.args.second.seat.me.0)) c.args.first.now.seat.me.0 c.args.second.seat.me.0 c.join_seats.new.seat.me.0 c.look_round.new.seat.me.0 c.split_seat-seat.new.seat.me.0 c.split_seat-seat.result.me.0
+    c.requires.first.rests.view c.requires.second.rests.view (ap (λ m. m.0) c.join_seats.ensures.both) c.look_round.ensures.looks (ap (λ m. m.0) e.left) (ap (λ m. m.0) e.right) in
+    (v.acts.0, v.acts.1, v.same_acts)

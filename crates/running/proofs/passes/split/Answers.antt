@@ -69,3 +69,17 @@ returns-clause-lines g c =
     let room : HasRoomForPass m.core.shape root = omega arith in
     let v = split_view m.core.shape names.shares line parent.seat.me.0 c.split_seat-seat.new.seat.me.0 c.split_seat-seat.result.me.0 c.requires.root.view c.requires.root.sound room (ap (λ m. m.0) e.left) (ap (λ m. m.0) e.right) in
     record { root = v.line; pass = ap (line_in names) v.pass }
+
+pub returns-clause-acts : goal.returns-clause-acts
+returns-clause-acts g c =
+    let m = g.M.Machine.machine c.args.table.now.key in
+    let e = c.split_seat-seat.ensures in
+    let parent = c.args.parent.now in
+    let root : RootView _ = root_in parent in
+    let line = line_in g.M.Machine.names parent.seat.me.0 in
+    let was : root.given ≡ parent.out + length root.account = c.requires.root.counted in
+    let most : c.args.most ≡ m.core.shape.passes = c.requires.most in
+    let fewer : parent.out < m.core.shape.passes = search rules in
+    let room : HasRoomForPass m.core.shape root = omega arith in
+    let v = split_view m.core.shape g.M.Machine.names.shares line parent.seat.me.0 c.split_seat-seat.new.seat.me.0 c.split_seat-seat.result.me.0 c.requires.root.view c.requires.root.sound room (ap (λ m. m.0) e.left) (ap (λ m. m.0) e.right) in
+    v.acts

@@ -3,10 +3,11 @@ use Rattle.bounded_model.specs.Stepping.{Underway, no_step}
 use Rattle.index_list.specs.declared.front.Front.{Front}
 use Rattle.running.specs.Ops.{underway_of}
 use Rattle.running.specs.Kept.{pass_in}
+use Rattle.running.specs.Passes.{pass_in as pass_now}
 use Rattle.treiber_stack.specs.FoldOp.{IsFolding}
 use Rattle.treiber_stack.specs.Stack.{begun_of, machine_of}
 use Rattle.lockfree_c.specs.Bulk.{front_from}
-use Rattle.lockfree_c.specs.Stacks.{FoldTried, stack_reading}
+use Rattle.lockfree_c.specs.Stacks.{FoldTried, Folded, WorkedAtMost, bulk_steps, stack_reading}
 use Rattle.lockfree_c.proofs.Shared.{began}
 use Rattle.lockfree_c.proofs.Stays.{settles}
 use Rattle.lockfree_c.proofs.Works.{fold_worked}
@@ -18,7 +19,11 @@ fold_on-made-requires c =
     let begun = subst (λ on. IsFolding on front [] c.first-op.result) c.deref.ensures c.first-op.ensures.0 in
     (front, [], subst (λ on. IsFolding on front [] c.first-op.result) (sym c.deref-in-Some.ensures) begun)
 
--- what it came to, from what the pass had seen
+-- it makes no step before it is tried
+begun_now : (c : goal.After-settle) → pass_now c.first-op.result.pass ≡ pass_in c.in-Some.by
+begun_now c = ap (λ (u : Underway _). u.now) c.first-op.ensures.1
+
+-- what it came to, from what the pass had seen, and in how many steps
 tried : (c : goal.After-settle) → FoldTried c.args.self.now.container.value (front_from c.args.reversed) [] (pass_in c.in-Some.by) c.fold_on-made.result
 tried c =
     let front = front_from c.args.reversed in
@@ -26,8 +31,11 @@ tried c =
     let op = c.first-op.result in
     let made = c.fold_on-made.result in
     let begun = subst (λ on. IsFolding on front [] op × (underway_of (machine_of on) op.pass ≡ no_step (pass_in c.in-Some.by))) c.deref.ensures c.first-op.ensures in
-    let went = subst (λ on. (from : Front) (values : List ℕ) → IsFolding on from values op → FoldTried on from values (begun_of on op.pass) made) c.deref-in-Some.ensures c.fold_on-made.ensures in
+    let went = subst (λ on. (from : Front) (values : List ℕ) → IsFolding on from values op → FoldTried on from values (begun_of on op.pass) made) c.deref-in-Some.ensures c.fold_on-made.ensures.tried in
     subst (λ v. FoldTried stack front [] v made) (ap (λ (u : Underway _). u.begun) begun.1) (went front [] begun.0)
+
+took : (c : goal.After-settle) → WorkedAtMost (bulk_steps c.args.tries) (pass_in c.in-Some.by) c.fold_on-made.result
+took c = subst (λ v. WorkedAtMost (bulk_steps c.args.tries) v c.fold_on-made.result) (begun_now c) c.fold_on-made.ensures.took
 
 pub returns-in-Some-clause-of : goal.returns-in-Some-clause-of
 returns-in-Some-clause-of c =
@@ -38,5 +46,5 @@ returns-in-Some-clause-of c =
 pub returns-in-Some-clause-gives : goal.returns-in-Some-clause-gives
 returns-in-Some-clause-gives c =
     let p = c.args.self.now in
-    began stack_reading (FoldTried p.container.value (front_from c.args.reversed) []) p (record p { stage = c.settle.new.self }) c.settle.result c.in-Some.by c.in-Some.ensures.value refl
-    (c.fold_on-made.result, tried c, c.settle.ensures)
+    began stack_reading (Folded p.container.value c.args.tries (front_from c.args.reversed)) p (record p { stage = c.settle.new.self }) c.settle.result c.in-Some.by c.in-Some.ensures.value refl
+    (c.fold_on-made.result, (tried c, took c), c.settle.ensures)

@@ -5,8 +5,8 @@ use Rattle.treiber_stack.specs.RangeTrying.{IsRanging, RangeTried}
 use Rattle.treiber_stack.specs.Stack.{begun_of}
 use Rattle.lockfree_c.proofs.calls.stack.range_on.Goals as goal
 
-pub returns-in-Again : goal.returns-in-Again
-returns-in-Again c =
+pub returns-in-Again-clause-tried : goal.returns-in-Again-clause-tried
+returns-in-Again-clause-tried c =
     let on = c.args.stack.now in
     let op = c.args.op in
     let places = c.run_range_for-made.new.values in
@@ -14,8 +14,8 @@ returns-in-Again c =
     let tried = subst (λ old. (values : List ℕ) → IsRanging on values old op → RangeTried on values (begun_of on op.pass) places made) c.deref_mut.ensures.value c.in-Again.ensures.tried in
     (places, λ values is. (with_items_is c.args.values places (omega arith), tried values is))
 
-pub returns-in-Done : goal.returns-in-Done
-returns-in-Done c =
+pub returns-in-Done-clause-tried : goal.returns-in-Done-clause-tried
+returns-in-Done-clause-tried c =
     let on = c.args.stack.now in
     let op = c.args.op in
     let places = c.run_range_for-made.new.values in

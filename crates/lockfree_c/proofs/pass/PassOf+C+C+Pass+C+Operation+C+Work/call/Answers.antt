@@ -1,5 +1,5 @@
 use Rattle.std.proofs.Common.{ap, arith, subst}
-use Rattle.std.specs.Prelude.{◌≡◌, ◌≤◌}
+use Rattle.std.specs.Prelude.{◌≡◌, ◌≤◌, ◌+◌}
 use Rattle.lockfree_c.specs.Calls.{Begins, steps_of}
 use Rattle.lockfree_c.proofs.Shared.{tried_on}
 use Rattle.lockfree_c.proofs.pass.PassOf+C+C+Pass+C+Operation+C+Work.call.Goals as goal
@@ -20,4 +20,5 @@ returns-in-Some-clause-gives g c =
     let begins = subst (λ on. Begins (b.reading on) by c.args.command op) c.deref.ensures c.begin-operation.ensures in
     let e : (r.making op).now.steps ≡ (r.pass by).steps = ap (λ u. u.now.steps) begins.begun in
     let least : (r.pass by).steps ≤ (r.making op).now.steps = omega (arith, e) in
-    tried_on b.reading (steps_of b.UNDISTURBED b.TO_EXCHANGE c.args.tries) p c.try_on.new.self c.try_on.result by c.args.command op c.in-Some.ensures.value begins.makes (ap (λ u. u.begun) begins.begun) least c.try_on.ensures.gives
+    let most : (r.making op).now.steps ≤ (r.pass by).steps + r.at_once c.args.command = omega (arith, e) in
+    tried_on b.reading (steps_of b.UNDISTURBED b.TO_EXCHANGE c.args.tries) p c.try_on.new.self c.try_on.result by c.args.command op c.in-Some.ensures.value begins.makes (ap (λ u. u.begun) begins.begun) least most c.try_on.ensures.gives

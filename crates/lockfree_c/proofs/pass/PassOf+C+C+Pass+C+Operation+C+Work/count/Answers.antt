@@ -7,5 +7,5 @@ returns-in-Some-clause-gives g c =
     let b = g.C.BoundedCalls in
     let p = c.args.self.now in
     let made = c.count_for-made in
-    let gives = subst (λ on. g.C.Counts.counts on ((b.reading on).pass c.in-Some.by) made.result) c.deref.ensures made.ensures.gives in
-    began b.reading (g.C.Counts.counts p.container.value) p (record p { stage = c.settle.new.self }) c.settle.result c.in-Some.by c.in-Some.ensures.value refl (made.result, gives, c.settle.ensures)
+    let gives = subst (λ on. g.C.Counts.counts on c.args.tries ((b.reading on).pass c.in-Some.by) made.result) c.deref.ensures made.ensures.gives in
+    began b.reading (g.C.Counts.counts p.container.value c.args.tries) p (record p { stage = c.settle.new.self }) c.settle.result c.in-Some.by c.in-Some.ensures.value refl (made.result, gives, c.settle.ensures)

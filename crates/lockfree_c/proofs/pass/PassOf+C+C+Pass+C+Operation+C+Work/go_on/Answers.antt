@@ -9,5 +9,5 @@ returns-in-Work-clause-gives g c =
     let p = c.args.self.now in
     let n = steps_of b.UNDISTURBED b.TO_EXCHANGE c.args.tries in
     let made = c.work_on-made in
-    let gives = subst (λ on. (b.reading on).works_on c.in-Work.work made.result) c.deref.ensures made.ensures.gives in
-    subst (λ u. GoesOn b.reading u n p (record p { stage = c.settle.new.self }) c.settle.result) c.in-Work.ensures.value (refl, (made.result, gives, c.settle.ensures))
+    let gives = subst (λ on. (b.reading on).works_on c.args.tries c.in-Work.work made.result) c.deref.ensures made.ensures.gives in
+    subst (λ u. GoesOn b.reading u c.args.tries n p (record p { stage = c.settle.new.self }) c.settle.result) c.in-Work.ensures.value (refl, (made.result, gives, c.settle.ensures))

@@ -23,7 +23,7 @@ returns-in-Done-clause-ran g c vs is =
     let r = c.in-Done in
     stops_so a.on.now a.operation.now a.by vs a.held a.at b.result b.ensures.0 b.ensures.1 is r.pass r.stopped
     (r.ensures.told (record { begun = b.result; held = a.held; at = a.at }) (λ x t. t))
-    (r.ensures.ran a.by (begins a.on.now a.operation.now a.by vs a.held a.at b.result b.ensures.0 b.ensures.1 is))
+    (r.ensures.ran a.by (begins a.on.now a.operation.now a.by vs a.held a.at b.result b.ensures.0 b.ensures.1 is)).0
 
 pub returns-in-Again-clause-took : goal.returns-in-Again-clause-took
 returns-in-Again-clause-took g c = c.in-Again.ensures.took

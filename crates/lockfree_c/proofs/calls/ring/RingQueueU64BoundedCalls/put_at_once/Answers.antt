@@ -1,5 +1,6 @@
-use Rattle.std.proofs.Common.{◌≡◌, ℕ, sym, subst}
+use Rattle.std.proofs.Common.{◌≡◌, ◌≤◌, ◌+◌, ℕ, sym, subst}
 use Rattle.running.specs.Kept.{underway_in}
+use Rattle.running.specs.Passes.{pass_in as pass_now}
 use Rattle.running.specs.declared.passes.Pass.{Pass}
 use Rattle.ring_table.specs.declared.line.SeatLine.{SeatLine}
 use Rattle.ring_table.specs.Seats.{names}
@@ -8,5 +9,8 @@ use Rattle.lockfree_c.proofs.calls.ring.RingQueueU64BoundedCalls.put_at_once.Goa
 
 pub returns-in-Again-clause-tried : goal.returns-in-Again-clause-tried
 returns-in-Again-clause-tried c =
-    let tried = c.in-Again.ensures in
+    let tried = c.in-Again.ensures.gives in
     (c.of_put.ensures.makes c.args.self.now c.args.value tried.0, subst (λ (p : Pass ℕ (SeatLine ℕ)). (underway_in names p).begun ≡ pass_in c.args.by) (sym c.of_put.ensures.same) tried.1)
+
+pub returns-in-Again-clause-most : goal.returns-in-Again-clause-most
+returns-in-Again-clause-most c = subst (λ (p : Pass ℕ (SeatLine ℕ)). (pass_now p).steps ≤ (pass_in c.args.by).steps + 11) (sym c.of_put.ensures.same) c.in-Again.ensures.took

@@ -8,11 +8,11 @@ pub returns-in-Fold-clause-of : goal.returns-in-Fold-clause-of
 returns-in-Fold-clause-of c =
     let on = c.args.self.now in
     let is = subst (λ work. IsStackWork on work) c.in-Fold.is c.requires in
-    fold_worked on is.1 (begun_of on c.in-Fold.op.pass) is.0 c.fold_on.result (c.fold_on.ensures is.0 is.1 is.2)
+    fold_worked on is.1 (begun_of on c.in-Fold.op.pass) is.0 c.fold_on.result (c.fold_on.ensures.tried is.0 is.1 is.2)
 
 pub returns-in-RangePut-clause-of : goal.returns-in-RangePut-clause-of
 returns-in-RangePut-clause-of c =
     let on = c.args.self.now in
     let is = subst (λ work. IsStackWork on work) c.in-RangePut.is c.requires in
-    let went = c.range_on.ensures in
+    let went = c.range_on.ensures.tried in
     range_worked on is.0 (begun_of on c.in-RangePut.op.pass) went.0 c.range_on.result (went.1 is.0 is.1)

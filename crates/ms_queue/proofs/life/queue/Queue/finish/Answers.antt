@@ -27,7 +27,9 @@ returns g c =
     let items : length (slots_items closed.slots) ≡ room_of queue = sym (slots_counts closed.slots).0 ∙ long in
     let final = c.close_with.ensures.values.2 in
     let left = leaves_all (room_of queue) (limit_of queue) root.seat.id root.seat.me.0 (root_in root) (slots_items closed.words) (slots_items closed.slots) final c.requires.on.view c.requires.on.sound items in
+    let all = runs_all (machine_of queue) root.seat.id root.seat.me.0 (root_in root) (slots_items closed.words) (slots_items closed.slots) (left_in c.of.result) final c.requires.on.view c.requires.on.sound (c.of.ensures ∙ left.2) in
     record {
       leaves = subst (λ (vs : List _). Leaves (shape_of queue) (root_in root) vs) (sym c.of.ensures) left.1;
-      run = runs_all (machine_of queue) root.seat.id root.seat.me.0 (root_in root) (slots_items closed.words) (slots_items closed.slots) (left_in c.of.result) final c.requires.on.view c.requires.on.sound (c.of.ensures ∙ left.2);
+      run = all.run;
+      all = all;
     }

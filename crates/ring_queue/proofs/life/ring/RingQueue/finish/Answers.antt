@@ -29,7 +29,9 @@ returns g c =
     let final = c.close_with.ensures.values.2 in
     let left = leaves_all (room_of ring) (laps_of ring) (passes_of ring) root.seat.id _ root.seat.me.0 (root_in root) words slots many final c.requires.on.view c.requires.on.sound in
     let are = left.2 c.of.result.slot c.of.ensures.low (c.of.ensures.front left.0 left.1) in
+    let all = runs_all (machine_of ring) root.seat.id root.seat.me.0 (root_in root) words slots (left_in c.of.result) final c.requires.on.view c.requires.on.sound (c.of.ensures.left ∙ are.1) in
     record {
       leaves = subst (Leaves (shape_of ring) (root_in root)) (sym c.of.ensures.left) are.0;
-      run = runs_all (machine_of ring) root.seat.id root.seat.me.0 (root_in root) words slots (left_in c.of.result) final c.requires.on.view c.requires.on.sound (c.of.ensures.left ∙ are.1);
+      run = all.run;
+      all = all;
     }

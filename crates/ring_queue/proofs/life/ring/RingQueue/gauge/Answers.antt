@@ -1,4 +1,6 @@
 use Rattle.std.proofs.Common.{refl}
+use Rattle.running.proofs.Back.{new_call}
+use Rattle.ring_queue.specs.Ring.{machine_of}
 use Rattle.ring_queue.proofs.life.ring.RingQueue.gauge.Goals as goal
 
 pub returns-clause-of : goal.returns-clause-of
@@ -20,3 +22,8 @@ pub returns-clause-ran : goal.returns-clause-ran
 returns-clause-ran g c =
     let b = c.whole.ensures.rested c.args.by c.requires c.first_step-first.ensures.ran in
     b.ran
+
+pub returns-clause-new : goal.returns-clause-new
+returns-clause-new g c =
+    let q = c.args.self.now in
+    new_call (machine_of q) q.table.shared.table_id c.args.by c.requires.on c.whole.result.0 (c.whole.ensures.new c.args.by.pass c.first_step-first.ensures.ran)

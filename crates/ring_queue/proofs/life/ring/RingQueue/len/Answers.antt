@@ -1,7 +1,8 @@
 use Rattle.std.proofs.Common.{◌≤◌, arith, refl}
 use Rattle.bounded_model.proofs.Hands.{within_capacity}
 use Rattle.bounded_model.proofs.Staying.{legal_before}
-use Rattle.ring_queue.specs.Ring.{room_of, shape_of}
+use Rattle.ring_queue.specs.Ring.{machine_of, room_of, shape_of}
+use Rattle.running.proofs.Back.{new_call}
 use Rattle.ring_queue.proofs.life.ring.RingQueue.len.Goals as goal
 
 pub overflow_cast-result : goal.overflow_cast-result
@@ -31,3 +32,8 @@ pub returns-clause-ran : goal.returns-clause-ran
 returns-clause-ran g c =
     let b = c.whole-pass.ensures.rested c.args.by c.requires c.first_step-first.ensures.ran in
     b.ran
+
+pub returns-clause-new : goal.returns-clause-new
+returns-clause-new g c =
+    let q = c.args.self.now in
+    new_call (machine_of q) q.table.shared.table_id c.args.by c.requires.on c.whole-pass.result.0 (c.whole-pass.ensures.new c.args.by.pass c.first_step-first.ensures.ran)

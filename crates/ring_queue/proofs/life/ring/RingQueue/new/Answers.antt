@@ -35,7 +35,7 @@ returns g c =
       record {
         on = record {
           table = made.2;
-          view = at_root names.shares c.in_ok-table.seat.me.0 fresh stock (ap (λ m. m.0) me);
+          view = at_root names.shares c.in_ok-table.seat.me.0 fresh [] stock (ap (λ m. m.0) me);
           slots = ap (λ m. m.1) me;
           sound = subst (λ r. IsSound m.core.shape (root_of r.0)) (sym me) (record { legal = tt; joined = tt; apart = tt; given = tt; known = tt; works = refl });
           counted = subst (λ r. (root_of r.0).given ≡ 0 + length (root_of r.0).account) (sym me) (omega arith);

@@ -37,4 +37,18 @@ returns-clause-run g c =
     let few : length slots ≤ NULL = omega (arith, small, long, (slots_counts closed.slots).0) in
     let final = c.close_with.ensures.values.2 in
     let left = leaves_all (room_of stack) (limit_of stack) root.seat.id root.seat.me.0 (root_in root) words slots (index_of (slice_index words top_at)) final c.requires.on.view c.requires.on.sound few refl in
+    (runs_all (machine_of stack) root.seat.id root.seat.me.0 (root_in root) words slots (left_in c.of.result) final c.requires.on.view c.requires.on.sound (c.of.ensures ∙ left.1)).run
+
+pub returns-clause-all : goal.returns-clause-all
+returns-clause-all g c =
+    let stack = c.args.self in
+    let root = c.args.parent.root in
+    let closed = c.close_with.result in
+    let words = slots_items closed.words in
+    let slots = slots_items closed.slots in
+    let small = stack.table.shared.key.capacity_in_range in
+    let long : slots_len closed.slots ≡ room_of stack = c.close_with.ensures.counts.1 ∙ stack.slots in
+    let few : length slots ≤ NULL = omega (arith, small, long, (slots_counts closed.slots).0) in
+    let final = c.close_with.ensures.values.2 in
+    let left = leaves_all (room_of stack) (limit_of stack) root.seat.id root.seat.me.0 (root_in root) words slots (index_of (slice_index words top_at)) final c.requires.on.view c.requires.on.sound few refl in
     runs_all (machine_of stack) root.seat.id root.seat.me.0 (root_in root) words slots (left_in c.of.result) final c.requires.on.view c.requires.on.sound (c.of.ensures ∙ left.1)

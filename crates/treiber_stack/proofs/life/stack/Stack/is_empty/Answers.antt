@@ -4,6 +4,8 @@ use Rattle.bounded_model.specs.declared.views.PassView.{PassView}
 use Rattle.bounded_model.specs.Laws.{Answers, LookGives}
 use Rattle.stack_machine.specs.declared.lines.Answer.TheVariants.{Look as Answer}
 use Rattle.stack_table.specs.declared.operation.Operation.TheVariants.{Look as First}
+use Rattle.running.proofs.Back.{new_call}
+use Rattle.running.proofs.Since.{step_new}
 use Rattle.running.proofs.Ways.{begun_is}
 use Rattle.treiber_stack.specs.KeepsAnswers.{looked}
 use Rattle.treiber_stack.specs.Ran.{WasRun}
@@ -36,3 +38,9 @@ returns-clause-gives g c =
     let by = c.args.by.pass in
     let made = c.look_once-pass in
     subst (λ (v : PassView _). LookGives (shape_of stack) v (pass_in (as_pass made.result.0)) made.result.1) (begun_is (machine_of stack) stack.table.shared.table_id by c.requires.on) (looked stack.table.shared.key First made.result.0.seat.me.0 _ made.result.1 made.ensures.ended)
+
+pub returns-clause-new : goal.returns-clause-new
+returns-clause-new g c =
+    let stack = c.args.self.now in
+    let made = c.look_once-pass in
+    new_call (machine_of stack) stack.table.shared.table_id c.args.by c.requires.on (as_pass made.result.0) (step_new (machine_of stack) made.ensures.line.0)

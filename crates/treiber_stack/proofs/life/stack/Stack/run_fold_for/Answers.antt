@@ -8,20 +8,20 @@ use Rattle.treiber_stack.proofs.Folds.{hands_on, all_gone, none_taken, same_gone
 use Rattle.treiber_stack.proofs.life.stack.Stack.run_fold_for.Goals as goal
 
 pub try_for-requires-clause-ran : goal.try_for-requires-clause-ran
-try_for-requires-clause-ran g c = let is = c.requires.2.under_way in (c.args.fold.pass, (is.stands, is.named, refl))
+try_for-requires-clause-ran g c = let is = c.requires.2.under_way in (c.args.fold.pass, (is.stands, is.named, (refl, λ w n. n)))
 
 pub returns-in-Again-clause-tried : goal.returns-in-Again-clause-tried
 returns-in-Again-clause-tried g c = λ front values is.
     let stack = c.args.self.now in
     let op = c.args.fold in
     let e = c.in-Again.ensures in
-    let r = e.ran op.pass (is.under_way.stands, is.under_way.named, refl) in (
+    let r = e.ran op.pass (is.under_way.stands, is.under_way.named, (refl, λ w n. n)) in (
       record {
         under_way = record { named = r.1; stands = r.0 };
         from = front_same _ _ (sym r.1 ∙ is.under_way.named) ∙ is.from;
         handed = same_gone stack op.at c.in-Again.at r.0.knows (e.told op.at (λ a t. t)) ∙ is.handed;
       },
-      r.2,
+      r.2.0,
     )
 
 pub returns-in-Yields-clause-tried : goal.returns-in-Yields-clause-tried
@@ -29,7 +29,7 @@ returns-in-Yields-clause-tried g c = λ front values is.
     let stack = c.args.self.now in
     let op = c.args.fold in
     let e = c.in-Done.ensures in
-    let stops = subst (λ (o : Operation _). Stops (machine_of stack) (fold_account stack.table.shared.key) stack.table.shared.table_id o (begun_of stack op.pass) c.in-Done.pass c.in-Done.stop) (is.under_way.named ∙ ap FoldFirst is.from) (e.ran op.pass (is.under_way.stands, is.under_way.named, refl)) in
+    let stops = subst (λ (o : Operation _). Stops (machine_of stack) (fold_account stack.table.shared.key) stack.table.shared.table_id o (begun_of stack op.pass) c.in-Done.pass c.in-Done.stop) (is.under_way.named ∙ ap FoldFirst is.from) (e.ran op.pass (is.under_way.stands, is.under_way.named, (refl, λ w n. n))).0 in
     hands_on stack front values op is c.in-Done.pass c.in-Done.stop stops (e.told op.at (λ a t. t)) c.in-Yields.value c.in-Yields.at c.in-Yields.is
 
 pub returns-in-Ended-clause-tried : goal.returns-in-Ended-clause-tried
@@ -37,7 +37,7 @@ returns-in-Ended-clause-tried g c = λ front values is.
     let stack = c.args.self.now in
     let op = c.args.fold in
     let e = c.in-Done.ensures in
-    let stops = subst (λ (o : Operation _). Stops (machine_of stack) (fold_account stack.table.shared.key) stack.table.shared.table_id o (begun_of stack op.pass) c.in-Done.pass c.in-Done.stop) (is.under_way.named ∙ ap FoldFirst is.from) (e.ran op.pass (is.under_way.stands, is.under_way.named, refl)) in
+    let stops = subst (λ (o : Operation _). Stops (machine_of stack) (fold_account stack.table.shared.key) stack.table.shared.table_id o (begun_of stack op.pass) c.in-Done.pass c.in-Done.stop) (is.under_way.named ∙ ap FoldFirst is.from) (e.ran op.pass (is.under_way.stands, is.under_way.named, (refl, λ w n. n))).0 in
     all_gone stack front values op is c.in-Done.pass c.in-Done.stop stops (e.told op.at (λ a t. t)) c.in-Ended.batch c.in-Ended.count c.in-Ended.is
 
 pub returns-in-Refused-clause-tried : goal.returns-in-Refused-clause-tried
@@ -45,7 +45,7 @@ returns-in-Refused-clause-tried g c = λ front values is.
     let stack = c.args.self.now in
     let op = c.args.fold in
     let e = c.in-Done.ensures in
-    let stops = subst (λ (o : Operation _). Stops (machine_of stack) (fold_account stack.table.shared.key) stack.table.shared.table_id o (begun_of stack op.pass) c.in-Done.pass c.in-Done.stop) (is.under_way.named ∙ ap FoldFirst is.from) (e.ran op.pass (is.under_way.stands, is.under_way.named, refl)) in
+    let stops = subst (λ (o : Operation _). Stops (machine_of stack) (fold_account stack.table.shared.key) stack.table.shared.table_id o (begun_of stack op.pass) c.in-Done.pass c.in-Done.stop) (is.under_way.named ∙ ap FoldFirst is.from) (e.ran op.pass (is.under_way.stands, is.under_way.named, (refl, λ w n. n))).0 in
     none_taken stack front values op is c.in-Done.pass c.in-Done.stop stops (e.told op.at (λ a t. t)) c.in-Refused.why c.in-Refused.is
 
 pub returns-in-Again-clause-took : goal.returns-in-Again-clause-took
