@@ -1,37 +1,41 @@
-/* A bounded queue, a bounded stack and a ring that many threads share without locks. For C and C++. The functions are
- * proved; the inline ones at the end are tested.
+/* A bounded queue, a bounded stack and a ring that many threads share without locks. For C and C++.
+ * The functions are proved; the inline ones at the end are tested.
  *
- * Which one: a stack gives the last value first, a queue and a ring the first. Between threads a ring is faster than a queue. It takes
- * half the memory and lasts longer, but is made for a number of passes. So take the ring if you know how many passes there will be,
- * and the queue if you do not.
+ * Which one: a stack gives the last value first, a queue and a ring the first. Between threads a
+ * ring is faster than a queue. It takes half the memory and lasts longer, but is made for a number
+ * of passes. So take the ring if you know how many passes there will be, and the queue if you do
+ * not.
  *
- * The library keeps a handle in your memory: a root or a pass of one container. All zero bytes are an empty handle. A
- * root gives passes, one to each thread. A pass makes the calls. Each handle has a share of its container, so no pass is
- * used with another container. The last handle of a container that is freed frees the container.
+ * The library keeps a handle in your memory: a root or a pass of one container. All zero bytes are
+ * an empty handle. A root gives passes, one to each thread. A pass makes the calls. Each handle has
+ * a share of its container, so no pass is used with another container. The last handle of a
+ * container that is freed frees the container.
  *
  * Five rules that no check can enforce:
- *   - Zero a handle before its first use. Then only the functions below write it. It may be moved in memory between
- *     calls. Never use a copy of it.
- *   - Give a handle to one call at a time. Different handles, also of one container, may be used in different threads
- *     at the same time. If a handle goes to another thread, something orders the two threads: a start or a join, a
- *     lock, or a release and an acquire.
- *   - malloc, realloc and free are of one allocator, and align as the C standard has it.
+ *   - Zero a handle before its first use. Then only the functions below write it. It may be moved
+ *     in memory between calls. Never use a copy of it.
+ *   - Give a handle to one call at a time. Different handles, also of one container, may be used in
+ *     different threads at the same time. If a handle goes to another thread, something orders the
+ *     two threads: a start or a join, a lock, or a release and an acquire.
+ *   - malloc, realloc and free belong to one allocator, whose memory is aligned as the C standard
+ *     says.
  *   - If a lockfree_put_range was BUSY, call it again with the same array, unchanged.
  *   - Make no call in a signal handler, or in the child of a fork of a process with threads.
  *
- * A code answers any other misuse of a handle, and any other failure of a call. Then nothing has changed but what is
- * said here. Everything that a thread wrote before a put is visible to the thread that takes the value. Everything that
- * it wrote before a close is visible to a thread that is answered CLOSED.
- * Only the calls that make a container, _split, _free, the first _finish of a container, _range_add and _range_put take
- * or give back memory. No call waits for another thread: it is proved that each ends. A bound on its steps is visible in
- * the code. It is proved of lockfree_go_on alone, for a put, a take, a close, a shut and a look. The inline functions at
- * the end continue until they have another answer than BUSY.
+ * A code answers any other misuse of a handle, and any other failure of a call. Then nothing has
+ * changed but what is said here. Everything that a thread wrote before a put is visible to the
+ * thread that takes the value. Everything that it wrote before a close is visible to a thread that
+ * is answered CLOSED. Only the calls that make a container, _split, _free, the first _finish of a
+ * container, _range_add and _range_put take or give back memory. No call waits for another thread:
+ * it is proved that each returns, and how many steps it makes at most, but for the way back of a
+ * range that is refused (docs/c-api.md). The inline functions at the end continue until they have
+ * another answer than BUSY.
  */
 #ifndef LOCKFREE_H
 #define LOCKFREE_H
 
-/* This header's version: 10,000 times the first number, 100 times the second, and the third. A program that may
- * meet another archive than this header's compares it with lockfree_version(). */
+/* This header's version: 10,000 times the first number, 100 times the second, and the third. A
+ * program that may meet another archive than this header's compares it with lockfree_version(). */
 #define LOCKFREE_H_VERSION 200 /* 0.2.0 */
 
 #include <stdbool.h>
@@ -44,27 +48,36 @@ extern "C" {
 
 enum {
     LOCKFREE_OK = 0,
-    LOCKFREE_FULL = 1,          /* put: each cell holds a value or is held by a call; in a ring, each slot holds a value */
-    LOCKFREE_EMPTY = 2,         /* take, fold: no value, and more may come. look: it was empty. range_put, put_range: of no value.
-                                   finish: nothing is left */
-    LOCKFREE_CLOSED = 3,        /* put: closed. take, fold: no value, and none will come. close: it was closed before. gauge: it was
-                                   closed, and value is as if it is OK */
+    LOCKFREE_FULL = 1,          /* put: each cell holds a value or is held by a call; in a ring,
+                                   each slot holds a value */
+    LOCKFREE_EMPTY = 2,         /* take, fold: no value, and more may come. look: it was empty.
+                                   range_put, put_range: of no value. finish: nothing is left */
+    LOCKFREE_CLOSED = 3,        /* put: closed. take, fold: no value, and none will come. close: it
+                                   was closed before. gauge: it was closed, and value is as if it is
+                                   OK */
     LOCKFREE_SHUT = 4,          /* take, fold: shut. shut: it was shut before */
-    LOCKFREE_SPENT = 5,         /* put, take, fold: a tag is at its limit, 2^42 - 1 or that of _limited; value is the tag. In a ring, put alone: the
-                                   slot was filled as often as its laps say; value is twice the laps */
-    LOCKFREE_BUSY = 6,          /* the tries are used up: continue with lockfree_go_on; after lockfree_put_range with the same call */
-    LOCKFREE_UNDER_WAY = 7,     /* the pass has a call under way: lockfree_go_on first. Or a range's values: lockfree_range_put first */
-    LOCKFREE_NO_CALL = 8,       /* go_on: the pass has no call under way, or one that lockfree_put_range continues */
+    LOCKFREE_SPENT = 5,         /* put, take, fold: a tag is at its limit, 2^42 - 1 or that of
+                                   _limited; value is the tag. In a ring, put alone: the slot was
+                                   filled as often as its laps say; value is twice the laps */
+    LOCKFREE_BUSY = 6,          /* the tries are used up: continue with lockfree_go_on; after
+                                   lockfree_put_range with the same call */
+    LOCKFREE_UNDER_WAY = 7,     /* the pass has a call under way: lockfree_go_on first. Or a range's
+                                   values: lockfree_range_put first */
+    LOCKFREE_NO_CALL = 8,       /* go_on: the pass has no call under way, or one that
+                                   lockfree_put_range continues */
     LOCKFREE_NO_MEMORY = 9,
-    LOCKFREE_NO_PASS = 10,      /* split: the root has given as many passes as it may, 65,535; in a ring, as it was made for */
-    LOCKFREE_BAD_CAPACITY = 11, /* new: a capacity is 1 to 1,048,573. limited: and a limit of tags 2 to 2^42 - 1. A ring:
-                                   see lockfree_ring_new */
-    LOCKFREE_OTHER_HANDLE = 12, /* a root instead of a pass, or a pass instead of a root. fold, range: or a queue's or a ring's
-                                   pass. count: or a stack's */
+    LOCKFREE_NO_PASS = 10,      /* split: the root has given as many passes as it may, 65,535; in a
+                                   ring, as it was made for */
+    LOCKFREE_BAD_CAPACITY = 11, /* new: a capacity is 1 to 1,048,573. limited: and a limit of tags 2
+                                   to 2^42 - 1. A ring: see lockfree_ring_new */
+    LOCKFREE_OTHER_HANDLE = 12, /* a root instead of a pass, or a pass instead of a root; or a call
+                                   that this container does not have: a fold or a range of a queue
+                                   or a ring, a count of a stack */
     LOCKFREE_NO_HANDLE = 13,    /* the handle is empty: never made, or freed */
     LOCKFREE_IN_USE = 14,       /* the handle to be made is not empty */
-    LOCKFREE_VALUE = 15,        /* fold: value is the next one, and the fold is under way: continue it by lockfree_go_on.
-                                   finish: value is the next one of what is left */
+    LOCKFREE_VALUE = 15,        /* fold: value is the next one, and the fold is under way: continue
+                                   it by lockfree_go_on. finish: value is the next one of what is
+                                   left */
     LOCKFREE_SHARED = 16        /* finish: another handle of the container is still out */
 };
 
@@ -95,53 +108,59 @@ uint32_t lockfree_version(void);
 uint32_t lockfree_queue_new(lockfree_handle *root, uint32_t capacity);
 uint32_t lockfree_stack_new(lockfree_handle *root, uint32_t capacity);
 
-/* The same, with a limit for its tags, 2 to 2^42 - 1: for tests of what a program does once a container is SPENT. A
- * queue of limit n takes n or n - 1 values in its life, and a stack makes n puts and takes in all; puts that find it
- * closed count too. */
+/* The same, with a limit for its tags, 2 to 2^42 - 1: for tests of what a program does once a
+ * container is SPENT. A queue of limit n takes n or n - 1 values in its life, and a stack makes n
+ * puts and takes in all; puts that find it closed count too. */
 uint32_t lockfree_queue_limited(lockfree_handle *root, uint32_t capacity, uint64_t tag_limit);
 uint32_t lockfree_stack_limited(lockfree_handle *root, uint32_t capacity, uint64_t tag_limit);
 
-/* A new ring for this number of passes, and its root in an empty handle. BAD_CAPACITY exactly if the capacity is less than 1, the
- * passes are not 2 to 65,535, or the two together are more than 1,048,575. Each slot can be filled 2^41 - 1 times: a ring of
- * capacity n takes n * (2^41 - 1) values in its life, if each pass ends its calls; then puts are SPENT, and takes still succeed.
- * _limited: each slot can be filled `laps` times, 1 to 2^41 - 1, else it is BAD_CAPACITY too: for tests of what a program
- * does once a ring is SPENT.
+/* A new ring for this number of passes, and its root in an empty handle. BAD_CAPACITY exactly if
+ * the capacity is less than 1, the passes are not 2 to 65,535, or the two together are more than
+ * 1,048,575. Each slot can be filled 2^41 - 1 times: a ring of capacity n takes n * (2^41 - 1)
+ * values in its life, if each pass ends its calls; then puts are SPENT, and takes still succeed.
+ * _limited: each slot can be filled `laps` times, 1 to 2^41 - 1, else it is BAD_CAPACITY too: for
+ * tests of what a program does once a ring is SPENT.
  * A pass that is freed is not given again: it counts among those that the ring was made for.
  * OK, BAD_CAPACITY, NO_MEMORY, IN_USE. */
 uint32_t lockfree_ring_new(lockfree_handle *root, uint32_t capacity, uint32_t passes);
-uint32_t lockfree_ring_limited(lockfree_handle *root, uint32_t capacity, uint64_t laps, uint32_t passes);
+uint32_t lockfree_ring_limited(lockfree_handle *root, uint32_t capacity, uint64_t laps,
+                               uint32_t passes);
 
 /* A new pass in an empty handle. OK, NO_PASS, NO_MEMORY, OTHER_HANDLE, NO_HANDLE, IN_USE. */
 uint32_t lockfree_split(lockfree_handle *root, lockfree_handle *pass);
 
 /* Gives up a root or a pass, and empties the handle. A call that is under way ends where it is: its
- * value is out of reach, and its cell stays held; of a fold, all that it has not handed out are, and the
- * cells of all; of a range_put, all of its values, and the cells that it has. OK, NO_HANDLE. */
+ * value is out of reach, and its cell stays held; of a fold, all that it has not handed out are,
+ * and the cells of all; of a range_put, all of its values, and the cells that it has. OK,
+ * NO_HANDLE. */
 uint32_t lockfree_free(lockfree_handle *handle);
 
-/* Ends a container whose root is its only handle, and hands out what is left in it, one value an answer: a queue's
- * or a ring's from the front, a stack's from the top. It asks for no memory, no pass and no tag. So it also empties a spent
- * container. If another handle of the container is out, it answers SHARED and nothing has changed: free the passes
- * first. After its first VALUE or EMPTY the root gives no pass (OTHER_HANDLE). lockfree_free then ends the root, with
- * the values that were not handed out. A value that a freed pass had under way is not among those that are left.
+/* Ends a container whose root is its only handle, and hands out what is left in it, one value an
+ * answer: a queue's or a ring's from the front, a stack's from the top. It asks for no memory, no
+ * pass and no tag. So it also empties a spent container. If another handle of the container is out,
+ * it answers SHARED and nothing has changed: free the passes first. After its first VALUE or EMPTY
+ * the root gives no pass (OTHER_HANDLE). lockfree_free then ends the root, with the values that
+ * were not handed out. A value that a freed pass had under way is not among those that are left.
  * VALUE, EMPTY, SHARED, OTHER_HANDLE, NO_HANDLE. */
 lockfree_answer lockfree_finish(lockfree_handle *root);
 
-/* The calls of a pass. Each first tries its fast path. If that does not end the call, it makes at most as many
- * steps more as an undisturbed call makes, and those of `tries` tries more; 0 is allowed. If it has not ended then, it
- * returns BUSY and is under way: lockfree_go_on continues it, and returns what the call would have returned.
+/* The calls of a pass. Each first tries its fast path. If that does not end the call, it makes at
+ * most as many steps more as an undisturbed call makes, and those of `tries` tries more; 0 is
+ * allowed. If it has not ended then, it returns BUSY and is under way: lockfree_go_on continues it,
+ * and returns what the call would have returned.
  * All: BUSY, UNDER_WAY, OTHER_HANDLE, NO_HANDLE.
  * put:   OK, FULL, CLOSED, SPENT
  * take:  OK, EMPTY, CLOSED, SHUT, SPENT
  * close: OK, CLOSED. No put follows
  * shut:  OK, SHUT. No take follows
  * look:  OK if it was not empty, EMPTY if it was
- * count: OK, and value is how many values the queue or the ring held at one moment of the call, 0 to its capacity. Not of
- *        stacks. It begins anew while others take
- * gauge: OK if the container was open, CLOSED if it was closed. value is how many of its tags were used at the same
- *        moment of the call, at most 2^42 - 1. A queue uses one for each put that was OK. A stack uses one for each put
- *        and each take, of one value or of many. In a ring, value is how many puts were OK, at most its capacity times its
- *        laps: then it is SPENT. A gauge uses no tag, so it also answers once the container is SPENT */
+ * count: OK, and value is how many values the queue or the ring held at one moment of the call, 0
+ *        to its capacity. Not of stacks. It begins anew while others take
+ * gauge: OK if the container was open, CLOSED if it was closed. value is how many of its tags were
+ *        used at the same moment of the call, at most 2^42 - 1. A queue uses one for each put that
+ *        was OK. A stack uses one for each put and each take, of one value or of many. In a ring,
+ *        value is how many puts were OK, at most its capacity times its laps: then it is SPENT. A
+ *        gauge uses no tag, so it also answers once the container is SPENT */
 lockfree_answer lockfree_put(lockfree_handle *pass, uint64_t value, uint64_t tries);
 lockfree_answer lockfree_take(lockfree_handle *pass, uint64_t tries);
 lockfree_answer lockfree_close(lockfree_handle *pass, uint64_t tries);
@@ -151,41 +170,47 @@ lockfree_answer lockfree_count(lockfree_handle *pass, uint64_t tries);
 lockfree_answer lockfree_gauge(lockfree_handle *pass, uint64_t tries);
 lockfree_answer lockfree_go_on(lockfree_handle *pass, uint64_t tries);
 
-/* The number of this pass's last call, if that was a put, a take, a fold or a range_put that was OK; else 0. Numbers
- * count the calls of all passes, from 0: a queue's and a ring's puts and takes apart, those of a stack together. So a
- * number tells how far a container is worn: it is spent near number 2^42, and a ring of n slots at number n * laps.
+/* The number of this pass's last call, if that was a put, a take, a fold or a range_put that was
+ * OK; else 0. Numbers count the calls of all passes, from 0: a queue's and a ring's puts and takes
+ * apart, those of a stack together. So a number tells how far a container is worn: it is spent near
+ * number 2^42, and a ring of n slots at number n * laps.
  * OK, UNDER_WAY, OTHER_HANDLE, NO_HANDLE. */
 lockfree_answer lockfree_number(lockfree_handle *pass);
 
-/* A fold of all values of a stack: one compare-and-swap takes them all, so that what is put after it is
- * not among them. It hands them out one after another, from the top down, or reversed, from the bottom
- * up: each is an answer with the code VALUE, and lockfree_go_on gives the next one, and at last OK.
- * Then their cells are free again; until then they are held, and the pass makes no other call. A fold
- * that is reversed makes two steps more for each value, before the first.
+/* A fold of all values of a stack: one compare-and-swap takes them all, so that what is put after
+ * it is not among them. It hands them out one after another, from the top down, or reversed, from
+ * the bottom up: each is an answer with the code VALUE, and lockfree_go_on gives the next one, and
+ * at last OK. Then their cells are free again; until then they are held, and the pass makes no
+ * other call. A fold that is reversed makes two steps more for each value, before the first.
  * OK, VALUE, EMPTY, CLOSED, SHUT, SPENT, BUSY, UNDER_WAY, OTHER_HANDLE, NO_HANDLE. */
 lockfree_answer lockfree_fold(lockfree_handle *pass, bool reversed, uint64_t tries);
 
-/* A range of values for a stack, of which others see all or none: one compare-and-swap puts them. The pass
- * collects them, one after another, which takes memory and no cell; then range_put puts as many as cells
- * can be had, from the first that was added, so that the last one put is on top. `tries` are for each
- * value, and again for all of them together. From the first value to the end of the put the pass makes no
- * other call, and go_on is NO_CALL until the put is BUSY. The end of the put gives back the memory, and the
- * pass has forgotten the values: those that were not put are the last `added - value`.
+/* A range of values for a stack, of which others see all or none: one compare-and-swap puts them.
+ * The pass collects them, one after another, which takes memory and no cell; then range_put puts as
+ * many as cells can be had, from the first that was added, so that the last one put is on top.
+ * `tries` are for each value, and again for all of them together. From the first value to the end
+ * of the put the pass makes no other call, and go_on is NO_CALL until the put is BUSY. The end of
+ * the put gives back the memory, and the pass has forgotten the values: those that were not put are
+ * the last `added - value`.
  * add: OK, NO_MEMORY, UNDER_WAY, OTHER_HANDLE, NO_HANDLE
- * put: OK; FULL, CLOSED, SPENT, EMPTY, and then none was put; BUSY, UNDER_WAY, OTHER_HANDLE, NO_HANDLE */
+ * put: OK; FULL, CLOSED, SPENT, EMPTY, and then none was put; BUSY, UNDER_WAY, OTHER_HANDLE,
+ * NO_HANDLE */
 uint32_t lockfree_range_add(lockfree_handle *pass, uint64_t value);
 lockfree_answer lockfree_range_put(lockfree_handle *pass, uint64_t tries);
 
-/* The same with the values of an array, in one call and with no memory for them: puts as many as cells can be had, from
- * the first, so that the last one put is on top. value is how many were put. values is not null, and count may be 0.
- * After BUSY it is called again, with the same array, until there is another answer; the pass makes no other call until
- * then, and go_on is NO_CALL, since it has no array.
- * OK; FULL, CLOSED, SPENT, EMPTY (of no values), and then none was put; BUSY, UNDER_WAY, OTHER_HANDLE, NO_HANDLE */
-lockfree_answer lockfree_put_range(lockfree_handle *pass, const uint64_t *values, size_t count, uint64_t tries);
+/* The same with the values of an array, in one call and with no memory for them: puts as many as
+ * cells can be had, from the first, so that the last one put is on top. value is how many were put.
+ * values is not null, and count may be 0. After BUSY it is called again, with the same array, until
+ * there is another answer; the pass makes no other call until then, and go_on is NO_CALL, since it
+ * has no array.
+ * OK; FULL, CLOSED, SPENT, EMPTY (of no values), and then none was put; BUSY, UNDER_WAY,
+ * OTHER_HANDLE, NO_HANDLE */
+lockfree_answer lockfree_put_range(lockfree_handle *pass, const uint64_t *values, size_t count,
+                                   uint64_t tries);
 
-/* Under ThreadSanitizer, which does not see the library's atomics, each call tells it what they order: of all
- * containers together, so that it reports no race that is none. It misses a race if calls of another container hide
- * it. */
+/* Under ThreadSanitizer, which does not see the library's atomics, each call tells it what they
+ * order: of all containers together, so that it reports no race that is none. It misses a race if
+ * calls of another container hide it. */
 #if defined(__SANITIZE_THREAD__)
 #define LOCKFREE_TELLS_TSAN 1
 #elif defined(__has_feature)
@@ -213,7 +238,8 @@ static inline lockfree_answer lockfree_heard(lockfree_answer answer)
 #define lockfree_go_on(pass, tries) LOCKFREE_TOLD((lockfree_go_on)(pass, tries))
 #define lockfree_fold(pass, reversed, tries) LOCKFREE_TOLD((lockfree_fold)(pass, reversed, tries))
 #define lockfree_range_put(pass, tries) LOCKFREE_TOLD((lockfree_range_put)(pass, tries))
-#define lockfree_put_range(pass, values, count, tries) LOCKFREE_TOLD((lockfree_put_range)(pass, values, count, tries))
+#define lockfree_put_range(pass, values, count, tries) \
+    LOCKFREE_TOLD((lockfree_put_range)(pass, values, count, tries))
 #define lockfree_finish(root) LOCKFREE_TOLD((lockfree_finish)(root))
 #endif
 
@@ -239,23 +265,25 @@ static inline uint32_t lockfree_pop(lockfree_handle *pass, uint64_t *value)
     return answer.code;
 }
 
-/* Whether the container was closed, at one moment of the call. False of a handle whose gauge is refused: one that is
- * empty, a root, what is left of a container that was ended, and a pass that is under way. */
+/* Whether the container was closed, at one moment of the call. False of a handle whose gauge is
+ * refused: one that is empty, a root, what is left of a container that was ended, and a pass that
+ * is under way. */
 static inline bool lockfree_is_closed(lockfree_handle *pass)
 {
     return lockfree_until(pass, lockfree_gauge(pass, UINT64_MAX)).code == LOCKFREE_CLOSED;
 }
 
-/* How far the container was worn at one moment of the call: how many of its tags were used, of at most 2^42 - 1, or of
- * the limit that it was made with. In a ring: how many values were put, of its capacity times its laps. 0 of a handle whose
- * gauge is refused. */
+/* How far the container was worn at one moment of the call: how many of its tags were used, of at
+ * most 2^42 - 1, or of the limit that it was made with. In a ring: how many values were put, of its
+ * capacity times its laps. 0 of a handle whose gauge is refused. */
 static inline uint64_t lockfree_wear(lockfree_handle *pass)
 {
     return lockfree_until(pass, lockfree_gauge(pass, UINT64_MAX)).value;
 }
 
 /* Takes one value and hands it to `use`. OK, or why there was none. */
-static inline uint32_t lockfree_consume_one(lockfree_handle *pass, void (*use)(uint64_t value, void *with), void *with)
+static inline uint32_t lockfree_consume_one(lockfree_handle *pass,
+                                            void (*use)(uint64_t value, void *with), void *with)
 {
     uint64_t value;
     uint32_t code = lockfree_pop(pass, &value);
@@ -265,7 +293,8 @@ static inline uint32_t lockfree_consume_one(lockfree_handle *pass, void (*use)(u
 }
 
 /* Takes values, one after another, until there is none; answers how many. */
-static inline uint64_t lockfree_consume_all(lockfree_handle *pass, void (*use)(uint64_t value, void *with), void *with)
+static inline uint64_t lockfree_consume_all(lockfree_handle *pass,
+                                            void (*use)(uint64_t value, void *with), void *with)
 {
     uint64_t count = 0;
     while (lockfree_consume_one(pass, use, with) == LOCKFREE_OK)
@@ -273,9 +302,10 @@ static inline uint64_t lockfree_consume_all(lockfree_handle *pass, void (*use)(u
     return count;
 }
 
-/* Ends a container and hands all that is left to `use`; answers how many there were. The root is then to be freed.
- * Hands out nothing if lockfree_finish refuses. */
-static inline uint64_t lockfree_finish_all(lockfree_handle *root, void (*use)(uint64_t value, void *with), void *with)
+/* Ends a container and hands all that is left to `use`; answers how many there were. The root is
+ * then to be freed. Hands out nothing if lockfree_finish refuses. */
+static inline uint64_t lockfree_finish_all(lockfree_handle *root,
+                                           void (*use)(uint64_t value, void *with), void *with)
 {
     uint64_t count = 0;
     lockfree_answer answer;
@@ -286,10 +316,11 @@ static inline uint64_t lockfree_finish_all(lockfree_handle *root, void (*use)(ui
     return count;
 }
 
-/* Takes all values of a stack at once and hands them to `use`, which makes no call with this pass. OK, or
- * why there were none; *count is how many. */
+/* Takes all values of a stack at once and hands them to `use`, which makes no call with this pass.
+ * OK, or why there were none; *count is how many. */
 static inline uint32_t lockfree_consume_all_atomic(lockfree_handle *pass, bool reversed,
-                                                   void (*use)(uint64_t value, void *with), void *with, uint64_t *count)
+                                                   void (*use)(uint64_t value, void *with),
+                                                   void *with, uint64_t *count)
 {
     lockfree_answer answer = lockfree_until(pass, lockfree_fold(pass, reversed, UINT64_MAX));
     while (answer.code == LOCKFREE_VALUE) {
@@ -300,8 +331,10 @@ static inline uint32_t lockfree_consume_all_atomic(lockfree_handle *pass, bool r
     return answer.code;
 }
 
-/* Puts the values of an array onto a stack at once, from the first: as many as cells can be had. Never BUSY. */
-static inline lockfree_answer lockfree_push_range(lockfree_handle *pass, const uint64_t *values, size_t count)
+/* Puts the values of an array onto a stack at once, from the first: as many as cells can be had.
+ * Never BUSY. */
+static inline lockfree_answer lockfree_push_range(lockfree_handle *pass, const uint64_t *values,
+                                                  size_t count)
 {
     lockfree_answer answer;
     do

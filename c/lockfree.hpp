@@ -1,7 +1,7 @@
 // A bounded queue, a bounded stack and a ring for C++17. They call the functions of lockfree.h,
 // which are proved; these headers are tested. A call that Boost.Lockfree has too has its name, and
-// its meaning unless its comment says otherwise. A program for Boost's containers switches by
-// including lockfree_boost.hpp.
+// its meaning unless its comment says otherwise. A program for Boost's containers switches in three
+// steps, by lockfree_boost.hpp: docs/cpp.md, "Moving from Boost".
 //
 //     lockfree::queue<T, lockfree::capacity<128>> queue;           // or with a capacity from now:
 //     lockfree::queue<T, lockfree::fixed_sized<true>> queue(128);   // = lockfree::bounded_queue<T>
@@ -28,10 +28,10 @@
 // call that would throw ends the program; `make` and calls that return a status do not. Files with
 // and without exceptions have containers of different types, and may be linked together.
 //
-// Wear. A queue takes 2^42 - 2 values in its life, a stack makes 2^42 - 1 pushes and pops. At ten
-// million pushes and pops a second that is five days for a queue, and two and a half for a stack. A
-// ring takes 2^41 - 1 times its capacity. Then it is spent: each push says so, and `finish` or the
-// destructor gets what is left. `wear()` says which part is used.
+// Wear. A queue takes up to 2^42 - 1 values in its life, a stack makes 2^42 - 1 pushes and pops. At
+// ten million pushes and pops a second that is five days for a queue, and two and a half for a
+// stack. A ring takes 2^41 - 1 times its capacity. Then it is spent: each push says so, and
+// `finish` or the destructor gets what is left. `wear()` says which part is used.
 //
 // Do not: call from a signal handler, or in the child of a fork of a process with threads; unload a
 // shared object whose code is in a call.
@@ -69,11 +69,11 @@ public:
     using base::base;
 };
 
-/// A bounded queue for a known number of threads, which takes less time between threads than
-/// `queue`: its calls. Options: capacity<N>, or none and the capacity for the constructor. It also
+/// A bounded queue for a known number of threads, faster than `queue` if several threads use it,
+/// with the same calls. Options: capacity<N>, or none and the capacity for the constructor. It also
 /// takes a pass_limit: as many threads at a time can have called it, with the passes of `split`.
-/// One more gets status::no_pass, and std::length_error of calls that say bool. The pass of a
-/// thread that ends, and of `split` that ends, is the next one's.
+/// One more gets status::no_pass, or std::length_error from calls that say bool. When a thread
+/// ends, or a pass of `split` is destroyed, the next thread can have its pass.
 ///
 ///     lockfree::ring_queue<T> ring(128, lockfree::pass_limit{8});   // 256 if there is no number
 template <class T, class... Options> class ring_queue

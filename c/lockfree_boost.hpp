@@ -3,10 +3,9 @@
 // has the three steps, and what differs though it compiles: above all `while (!queue.push(x));`,
 // which does not end if the queue is closed or spent. Write push_wait.
 //
-// Code that would mean something else here is refused when it is compiled, with the reason:
-// containers that grow, allocators, reserve, options that are not known or are given twice. Boost's
-// other headers go with it, before or after: its spsc_queue and its policies, which are used here
-// if Boost is there.
+// What cannot be had here is refused when it is compiled, with the reason: containers that grow,
+// allocators, reserve, options that are not known or are given twice. Boost's other headers go with
+// it, before or after: its spsc_queue and its policies, which are used here if Boost is there.
 #pragma once
 
 #if defined(BOOST_LOCKFREE_FIFO_HPP_INCLUDED) || defined(BOOST_LOCKFREE_STACK_HPP_INCLUDED)

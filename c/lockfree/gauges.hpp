@@ -86,9 +86,9 @@ public:
     static constexpr bool is_always_lock_free = true;
 
     /// The part of its life that the container had used at one moment of the call, from 0 to 1. A
-    /// queue takes 2^42 - 2 values in its life, a stack makes 2^42 - 1 pushes and pops, a ring
-    /// takes 2^41 - 1 times its capacity. Then it is spent, and each push says so, each pop of a
-    /// stack too. 1 after `finish`.
+    /// queue takes up to 2^42 - 1 values in its life, a stack makes 2^42 - 1 pushes and pops, a
+    /// ring takes 2^41 - 1 times its capacity. Then it is spent, and each push says so, each pop of
+    /// a stack too. 1 after `finish`.
     double wear() const { return answered<double>(&gauges::try_wear); }
     status try_wear(double &to) const noexcept {
         const core *const of = me().shared();

@@ -25,15 +25,15 @@ struct uses_optional_t {};
 inline constexpr uses_optional_t uses_optional{};
 
 /// For a constructor: how far a container wears before it is spent, 2 to 2^42 - 1, so that a
-/// program can be tried with a spent container. A queue takes `most - 1` values in its life; a
-/// stack makes `most` pushes and pops in all.
+/// program can be tried with a spent container. A queue takes `most` values in its life, or one
+/// fewer; a stack makes `most` pushes and pops in all.
 struct tag_limit {
     std::uint64_t most;
 };
 
 /// For a ring's constructor: how many passes are out at a time at most, of threads that have called
 /// it and of `split` together. 1 to 65,534, and with the capacity at most 1,048,574. A ring that is
-/// given none has 256, which cost 5 KiB, and 12 to 18 KiB more for values in cells: as many threads
+/// given none has 256, which cost 5 KiB, and 13 to 24 KiB more for values in cells: as many threads
 /// as a server has, and fewer if it has a ring for each connection.
 struct pass_limit {
     std::size_t most;
