@@ -3,7 +3,7 @@
 ghost use Rattle.std.specs.Prelude.{◌≡◌, ℕ, IfOk, List, [], ◌∷◌};
 ghost use Rattle.bounded_model.specs.declared.commands.Command.{Command};
 ghost use Rattle.bounded_model.specs.Calls.{CallGives};
-ghost use Rattle.bounded_model.specs.Stepping.{Underway};
+ghost use Rattle.bounded_model.specs.Stepping.{Underway, no_step};
 ghost use Rattle.player.specs.Plays.{Acting, ActingTold, IsFor, Meaning, RestingTold, StepsTold, Told};
 ghost use Rattle.player.specs.Shows.{Holds, Shows, StepOf, reading_of};
 ghost use Rattle.player.specs.declared.place.Place.TheVariants.{Acting as AtWork};
@@ -14,7 +14,7 @@ ghost use Rattle.script.specs.declared.line.PassName.{PassName};
 use crate::place::{Begun, Place};
 use crate::ranges::Ranges;
 use crate::trace::{MadeStep, Trace};
-use bounded_model::{Command, Reply, Stepped, begin};
+use bounded_model::{Command, Reply, Stepped};
 use script::{Act, Answer, Value};
 use std::alloc::{AllocError, Global};
 use std::sync::Wait;
@@ -144,6 +144,21 @@ fn make_call<'a, C: Named<Value<'a>>, R: Wait>(
         }
     }
     unreachable!()
+}
+
+/// Begins a call of any kind.
+fn begin<'a, C: Named<Value<'a>>>(container: &C, by: C::Pass, command: Command<Value<'a>>) -> C::Op
+    requires { C.is_pass container.now by }
+    ensures call { C.is_making container.now command.entry result }
+    ensures begun { C.making result ≡ no_step (C.pass by) }
+{
+    match command {
+        Command::Put(value) => container.begin_put(by, value),
+        Command::Take => container.begin_take(by),
+        Command::Close => container.begin_close(by),
+        Command::Shut => container.begin_shut(by),
+        Command::Look => container.begin_look(by),
+    }
 }
 
 /// Makes a whole call as the container makes it.
