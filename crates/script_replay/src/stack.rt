@@ -11,13 +11,42 @@ ghost use Rattle.script_replay.specs.Outcome.{IsOutputIn};
 ghost use Rattle.script_replay.specs.Traced.{IsTracedIn};
 ghost use Rattle.treiber_stack.specs.Stack.{IsRootOf, root_in};
 
-use bounded_model::MakeRefused;
-use player::{BulkRanges, Trace, play};
-use script::{Script, Value};
-use std::alloc::Global;
+use bounded_model::{MakeRefused, TakeRefused};
+use player::{BulkRanges, Ranges, Trace, play};
+use script::{RangeReply, Script, Value, ValueList, Values};
+use std::alloc::{AllocError, Global};
 use std::sync::Wait;
 use tagged_index::Limits;
-use treiber_stack::{Root, Stack};
+use treiber_stack::{Pass, Root, Stack};
+
+type Bulk<'a> = BulkRanges<'a, Stack<Value<'a>>>;
+
+/// The ranges and folds of a stack's script, which are those of `BulkRanges`. It is a type of its
+/// own because the prover would reach its limit of steps at a call of `play` that names `BulkRanges`
+/// of a stack.
+struct StackRanges;
+
+impl<'a> Ranges<'a, Stack<Value<'a>>> for StackRanges {
+    fn range<R: Wait>(
+        stack: &Stack<Value<'a>>,
+        rt: &R,
+        alloc: Global,
+        by: Pass<Value<'a>>,
+        values: Values<'a>,
+    ) -> Result<(Pass<Value<'a>>, RangeReply, ValueList<'a>), AllocError> {
+        <Bulk<'a> as Ranges<'a, Stack<Value<'a>>>>::range(stack, rt, alloc, by, values)
+    }
+
+    fn fold<R: Wait>(
+        stack: &Stack<Value<'a>>,
+        rt: &R,
+        alloc: Global,
+        by: Pass<Value<'a>>,
+        reversed: bool,
+    ) -> Result<(Pass<Value<'a>>, Result<(u64, ValueList<'a>), TakeRefused>), AllocError> {
+        <Bulk<'a> as Ranges<'a, Stack<Value<'a>>>>::fold(stack, rt, alloc, by, reversed)
+    }
+}
 
 // A new stack, as `new_queue` makes a queue.
 fn new_stack<'a>(
@@ -49,5 +78,5 @@ pub(crate) fn play_stack<R: Wait>(
 {
     let Script { header, lines } = script;
     let (stack, root) = new_stack(alloc, header.limits)?;
-    Ok(play::<BulkRanges<'_, _>, _, _>(rt, alloc, stack, root, lines, trace)?)
+    Ok(play::<StackRanges, _, _>(rt, alloc, stack, root, lines, trace)?)
 }
