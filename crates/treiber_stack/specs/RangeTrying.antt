@@ -51,11 +51,12 @@ module _ {T : Type 0} where
   left_after (Again next) = left_at next.at.at next.at.held
   left_after (Done back answer) = put_of answer
 
-  -- What a stop came to, of a range that was at this with these nodes. It has ended, or it continues: on its way to put the values back, or
-  -- with one node more after one step at most
+  -- What a stop came to, of a range that was at this with these nodes. It has ended, or it continues: with one node more after one step at
+  -- most, or on its way back with the same nodes, after one step at most for each value that it has put back
   abbrev pub StoppedAt : RangeAt → ℕ → runs.Pass T (Line T) → Stepped (RangeOp T) (Pass T) (Result Ranged RangeRefused) → Type 0
   StoppedAt at count p made = MatchStepped made
-      (λ next. (gives_back at ≡ false) × (gives_back next.at.at ≡ false → (next.at.held.count ≡ count + 1) × ((passes.pass_in next.pass).steps ≤ (passes.pass_in p).steps + 1)))
+      (λ next. (gives_back at ≡ false) × (gives_back next.at.at ≡ false → (next.at.held.count ≡ count + 1) × ((passes.pass_in next.pass).steps ≤ (passes.pass_in p).steps + 1))
+      × (gives_back next.at.at ≡ true → (next.at.held.count ≡ count) × ((passes.pass_in next.pass).steps ≤ (passes.pass_in p).steps + count)))
       (λ back answer. (back.pass ≡ p) × PutSoMany at count answer)
 
   -- The steps of a part that took `more` nodes: n to take each and one to link it, and n after the last
@@ -74,6 +75,16 @@ module _ {T : Type 0} where
       (λ next. gives_back next.at.at ≡ gives_back op.at.at → (more : ℕ) × (more + op.at.held.count ≡ next.at.held.count) × MadeWith n more (passes.pass_in op.pass) (passes.pass_in next.pass)
       × (more ≡ 0 → (passes.pass_in next.pass).steps ≡ (passes.pass_in op.pass).steps + n))
       (λ back answer. RangeEnds n op back answer)
+
+  -- The most steps of a part of a range of so many values, whatever it comes to: n to take each node, one to link it and one to read that link
+  -- again, n for the top and n for the way back
+  abbrev pub MadeAtMost : ℕ → ℕ → PassView T → PassView T → Type 0
+  MadeAtMost n len v w = w.steps ≤ v.steps + (len * (n + 2) + 2 * n)
+
+  abbrev pub RangeMost : ℕ → ℕ → RangeOp T → Stepped (RangeOp T) (Pass T) (Result Ranged RangeRefused) → Type 0
+  RangeMost n len op made = MatchStepped made
+      (λ next. MadeAtMost n len (passes.pass_in op.pass) (passes.pass_in next.pass))
+      (λ back answer. MadeAtMost n len (passes.pass_in op.pass) (pass_in back))
 
 module _ {T : Type 0} (c : Stack T) (o : Operation T) where
   -- a range of these values is at this; if it takes a node, there is a value for it

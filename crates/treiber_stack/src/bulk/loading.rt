@@ -1,7 +1,8 @@
 //! The nodes of a range: the next value goes into the one taken last, and if the range is refused,
 //! each value comes out again.
-ghost use Rattle.std.specs.Prelude.{◌≡◌, ◌<◌, List};
+ghost use Rattle.std.specs.Prelude.{◌≡◌, ◌+◌, ◌<◌, ◌≤◌, List};
 ghost use Rattle.machine.specs.Seats.{Looks};
+ghost use Rattle.running.specs.Passes.{pass_in};
 ghost use Rattle.treiber_stack.specs.Ranging.{HasTaken, FillsOne, IsNext, IsRefused, Restores, ReadsAgain};
 ghost use Rattle.treiber_stack.specs.Stack.{room_of, shape_of};
 ghost use Rattle.treiber_stack.specs.declared.call_parts.refusing.Barred.{Barred};
@@ -62,6 +63,7 @@ pub(crate) fn restore<T, V: Source<T>>(
     ensures restored { (o : Operation T) (vs : List T) (why : Barred)
         → IsRefused on.now o by vs held why → V.left values.old vs held.count
         → Restores on.now o by vs held why result × V.left values.new vs 0 }
+    ensures took { (pass_in result).steps ≤ (pass_in by).steps + held.count }
     ensures same { V.borrow values.new ≡ V.borrow values.old }
 {
     let mut pass = by;
@@ -85,6 +87,7 @@ fn read_again<T>(on: &Stack<T>, by: &mut Pass<T, Line<T>>, index: u32) -> u32
     ensures seat { (by.new.seat.table_id ≡ by.old.seat.table_id)
         × (by.new.seat.me.1 ≡ by.old.seat.me.1) }
     ensures looks { Looks (shape_of on.now) by.old.seat.me.0 by.new.seat.me.0 }
+    ensures took { (pass_in by.new).steps ≤ (pass_in by.old).steps + 1 }
     ensures link { ReadsAgain by.old.seat.me.0 index result }
 {
     let found = peek(&on.table.shared, &mut by.seat, link(index));

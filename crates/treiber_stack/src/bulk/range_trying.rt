@@ -1,9 +1,9 @@
 //! A range that is put in parts of a bounded number of steps, whatever its values come from. When
 //! the steps are used up, it comes back as it is, begun as before.
-ghost use Rattle.std.specs.Prelude.{◌≡◌, List, [], MatchOption};
+ghost use Rattle.std.specs.Prelude.{◌≡◌, List, [], length, MatchOption};
 ghost use Rattle.bounded_model.specs.declared.views.PassView.{PassView};
 ghost use Rattle.treiber_stack.specs.Ran.{IsRange};
-ghost use Rattle.treiber_stack.specs.RangeTrying.{HasStopped, IsRangeOp, RangeCame, RangeStarts, RangeSteps, StoppedAt, left_after, left_at};
+ghost use Rattle.treiber_stack.specs.RangeTrying.{HasStopped, IsRangeOp, RangeCame, RangeMost, RangeStarts, RangeSteps, StoppedAt, left_after, left_at};
 ghost use Rattle.treiber_stack.specs.Stack.{IsPassOf, begun_of, pass_in};
 ghost use Rattle.treiber_stack.specs.declared.bulk.range_steps.RangeAt.{RangeAt};
 ghost use Rattle.treiber_stack.specs.declared.bulk.range_steps.RangeStop.TheVariants.{Over};
@@ -67,6 +67,9 @@ pub(crate) fn run_for<T, V: Source<T>>(
         → RangeCame on.now vs (begun_of on.now op.pass) result
         × V.left values.new vs (left_after result) }
     ensures took { RangeSteps steps op result }
+    ensures most { (vs : List T) → IsRangeOp on.now vs op
+        → V.left values.old vs (left_at op.at.at op.at.held)
+        → RangeMost steps (length vs) op result }
     ensures same { V.borrow values.new ≡ V.borrow values.old }
 {
     let mut range = op;

@@ -1,13 +1,13 @@
 //! Putting a range of values by one compare-and-swap of the top. It takes a node for each value,
 //! from the front, until there is none for the next. Each node is linked to the one taken before
 //! it. A whole call continues the parts until the range is over.
-ghost use Rattle.std.specs.Prelude.{◌≡◌, List, IsSome};
+ghost use Rattle.std.specs.Prelude.{◌≡◌, List, length, IsSome};
 ghost use Rattle.std.specs.List.{AllByRecursion as Every};
 ghost use Rattle.bounded_model.specs.declared.answers.Stepped.TheVariants.{Done};
 ghost use Rattle.bounded_model.specs.Bulk.{PutsRange, RangeAnswers, somes};
 ghost use Rattle.treiber_stack.specs.Copying.{CopyBegun, CopyTried, IsCopying};
 ghost use Rattle.treiber_stack.specs.Ran.{WasRange};
-ghost use Rattle.treiber_stack.specs.RangeTrying.{IsRangeOp, IsRanging, RangeBegun, RangeCame, RangeSteps, RangeTried, left_at, put_of};
+ghost use Rattle.treiber_stack.specs.RangeTrying.{IsRangeOp, IsRanging, RangeBegun, RangeCame, RangeMost, RangeSteps, RangeTried, left_at, put_of};
 ghost use Rattle.treiber_stack.specs.Stack.{IsPassOf, begun_of, call_of, pass_in};
 
 use crate::bulk::range_trying::{RangeMade, RangeOp, begin, run_for};
@@ -57,8 +57,8 @@ impl<T> Stack<T> {
     /// that failed. It makes at most `steps` steps to take each node, `steps` to put them onto the
     /// top and `steps` to give them back. A node that is linked, or whose value goes back, is one
     /// step more. If the range ends, it returns what `put_range` does, and leaves the places so.
-    /// The contract does not bound a part in which the range is first refused or turns back. A step
-    /// is one atomic access.
+    /// A part in which the range is first refused or turns back has a bound of its own, `most`: at
+    /// most `steps + 2` steps for each value, and twice `steps` more. A step is one atomic access.
     pub fn run_range_for(
         &self,
         op: RangeOp<T>,
@@ -69,6 +69,8 @@ impl<T> Stack<T> {
         ensures tried { (vs : List T) → IsRanging self.now vs values.old op
             → RangeTried self.now vs (begun_of self.now op.pass) values.new result }
         ensures took { RangeSteps steps op result }
+        ensures most { (vs : List T) → IsRanging self.now vs values.old op
+            → RangeMost steps (length vs) op result }
     {
         let mut places = Places { places: values };
         run_for(self, op, &mut places, steps)
@@ -91,6 +93,7 @@ impl<T: Copy> Stack<T> {
         requires { IsCopying self.now values.now op }
         ensures tried { CopyTried self.now values.now (begun_of self.now op.pass) result }
         ensures took { RangeSteps steps op result }
+        ensures most { RangeMost steps (length values.now) op result }
     {
         let mut copies = Copies { values };
         run_for(self, op, &mut copies, steps)

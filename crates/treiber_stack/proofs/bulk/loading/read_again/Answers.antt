@@ -10,3 +10,6 @@ returns-clause-link g c giving before others next line parts =
 
 pub peek-found-requires-clause-may : goal.peek-found-requires-clause-may
 peek-found-requires-clause-may g c = may_look c.args.on.now c.args.by.now.seat.me.0
+
+pub returns-clause-took : goal.returns-clause-took
+returns-clause-took g c = c.peek-found.ensures.took

@@ -1,4 +1,8 @@
-use Rattle.std.proofs.Common.{◌≡◌, ℕ, ◌+◌, ◌-◌, refl, sym, ◌∙◌, subst, arith}
+use Rattle.std.proofs.Common.{◌≡◌, ℕ, ◌+◌, ◌-◌, ◌≤◌, List, refl, sym, ap, ◌∙◌, subst, arith}
+use Rattle.std.specs.Prelude.{Option as Slot}
+use Rattle.machine.specs.Seats.{pass_of}
+use Rattle.machine.specs.declared.seats.View.{View}
+use Rattle.running.specs.Passes.{pass_in}
 use Rattle.running.specs.declared.passes.Pass.{Pass}
 use Rattle.treiber_stack.specs.Ranging.{IsRestoring}
 use Rattle.treiber_stack.specs.Stack.{begun_of}
@@ -6,8 +10,12 @@ use Rattle.treiber_stack.proofs.Restoring.{restore_start, restore_full, restore_
 use Rattle.treiber_stack.proofs.bulk.loading.restore.Goals.{then-place-gt0, else-place-gt0}
 use Rattle.treiber_stack.proofs.bulk.loading.restore.Goals as goal
 
+-- a value that comes out is no step
+none_more : {T L : Type 0} (p q : Pass T L) (slots : List (ℕ × Slot T)) → q.seat.me ≡ (p.seat.me.0, slots) → (pass_in q).steps ≡ (pass_in p).steps
+none_more {T} {L} p q slots e = ap (λ (me : View T L × List (ℕ × Slot T)). (pass_of me.0).steps) e
+
 pub loop-moved-init : goal.loop-moved-init
-loop-moved-init g c = ((λ o vs why f left. (restore_start c.args.on.now o vs c.args.held why c.args.by f, (c.args.held.count, omega arith, left), refl)), refl)
+loop-moved-init g c = ((λ o vs why f left. (restore_start c.args.on.now o vs c.args.held why c.args.by f, (c.args.held.count, omega arith, left), refl)), omega arith, refl)
 
 pub take_out-value-requires-clause-table : goal.take_out-value-requires-clause-table
 take_out-value-requires-clause-table g c =
@@ -78,7 +86,19 @@ loop-moved-preserved g c = (
             subst (λ s. Goes s c.if-place-gt0.index) (sym w.pass-is) (subst (λ e. Goes q e) (sym w.index-is) (f.0, f.1 ∙ i.2))
       ] in
       (goes.0, (place, omega arith, back), goes.1),
-  c.put_back.ensures.same ∙ c.loop-moved.invariant.1,
+  let here = c.loop-moved-test.true in
+      let so_far = c.loop-moved.invariant.1 in
+      let t = c.take_out-value in
+      let same = none_more c.loop-moved.pass t.new.by _ t.ensures.out in
+      let Few : Pass _ _ → Type 0 = λ s. (pass_in s).steps ≤ (pass_in c.args.by).steps + (c.loop-moved.moved + 1) in
+      elim c.if-place-gt0.branch [
+        | then-place-gt0 w ↦
+            let r = w.read_again-index in
+            let one = r.ensures.took in
+            subst Few (sym w.pass-is) (omega (arith, so_far, same, one))
+        | else-place-gt0 w ↦ subst Few (sym w.pass-is) (omega (arith, so_far, same))
+      ],
+  c.put_back.ensures.same ∙ c.loop-moved.invariant.2,
 )
 
 pub returns-clause-restored : goal.returns-clause-restored

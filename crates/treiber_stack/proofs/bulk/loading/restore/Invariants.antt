@@ -1,4 +1,5 @@
-use Rattle.std.proofs.Common.{◌≡◌, ℕ, ◌+◌, List}
+use Rattle.std.proofs.Common.{◌≡◌, ℕ, ◌+◌, ◌≤◌, List}
+use Rattle.running.specs.Passes.{pass_in}
 use Rattle.stack_table.specs.declared.operation.Operation.{Operation}
 use Rattle.treiber_stack.specs.Ranging.{IsRefused, IsRestoring}
 use Rattle.treiber_stack.specs.Stack.{begun_of}
@@ -9,4 +10,5 @@ abbrev pub invariant-loop-moved : goal.invariant-loop-moved
 invariant-loop-moved g l =
     ((o : Operation g.row.T.Denot) (vs : List g.row.T.Denot) (why : Barred) → IsRefused l.fn.on o l.fn.by vs l.fn.held why → g.V.Source.left l.fn.values vs l.fn.held.count
     → IsRestoring l.fn.on o l.pass vs l.fn.held why l.moved l.index × ((m : ℕ) × (m + l.moved ≡ l.fn.held.count) × g.V.Source.left l.values vs m) × (begun_of l.fn.on l.pass ≡ begun_of l.fn.on l.fn.by))
+    × ((pass_in l.pass).steps ≤ (pass_in l.fn.by).steps + l.moved)
     × (g.V.Source.borrow l.values ≡ g.V.Source.borrow l.fn.values)

@@ -1,4 +1,5 @@
 use Rattle.std.proofs.Common.{ℕ, sym, ◌∙◌, subst, arith}
+use Rattle.std.proofs.lemmas.Bool.{false≢true}
 use Rattle.treiber_stack.specs.RangeTrying.{HasStopped}
 use Rattle.treiber_stack.proofs.RangeTrying.{has_node, took_not_back, to_node, to_top}
 use Rattle.treiber_stack.proofs.bulk.range_trying.after_stop.Goals as goal
@@ -55,7 +56,7 @@ returns-then-held-len-clause-stopped g c v vs at h left =
     let node = has_node a.on.now a.operation a.by vs a.held at v c.in-Took.index took in
     let taken = c.take-value.ensures.taken vs node.2 (subst (λ (k : ℕ). g.V.Source.left a.values.now vs k) node.3 left) in
     let f = c.load_node-pass.ensures vs node.0 taken.0 in
-    (took_not_back a.on.now a.operation a.by vs a.held at v c.in-Took.index took, λ e. (f.1, f.3))
+    (took_not_back a.on.now a.operation a.by vs a.held at v c.in-Took.index took, λ e. (f.1, f.3), λ e. absurd (false≢true e))
 
 pub returns-clause-stopped : goal.returns-clause-stopped
 returns-clause-stopped g c v vs at h left =
@@ -64,4 +65,4 @@ returns-clause-stopped g c v vs at h left =
     let node = has_node a.on.now a.operation a.by vs a.held at v c.in-Took.index took in
     let taken = c.take-value.ensures.taken vs node.2 (subst (λ (k : ℕ). g.V.Source.left a.values.now vs k) node.3 left) in
     let f = c.load_node-pass.ensures vs node.0 taken.0 in
-    (took_not_back a.on.now a.operation a.by vs a.held at v c.in-Took.index took, λ e. (f.1, f.3))
+    (took_not_back a.on.now a.operation a.by vs a.held at v c.in-Took.index took, λ e. (f.1, f.3), λ e. absurd (false≢true e))

@@ -86,4 +86,4 @@ pub returns-in-Barred-clause-stopped : goal.returns-in-Barred-clause-stopped
 returns-in-Barred-clause-stopped g c v vs at h =
     let a = c.args in
     let e = end.Barred c.in-Barred.why in
-    (not_back a.on.now a.operation a.by vs a.held at v e refl (subst (λ (e : RangeEnd). HasStopped a.on.now a.operation v a.by vs a.held at (Over e)) c.in-Barred.is h), λ b. absurd (false≢true (sym b)))
+    (not_back a.on.now a.operation a.by vs a.held at v e refl (subst (λ (e : RangeEnd). HasStopped a.on.now a.operation v a.by vs a.held at (Over e)) c.in-Barred.is h), λ b. absurd (false≢true (sym b)), λ b. (refl, c.restore-pass.ensures.took))

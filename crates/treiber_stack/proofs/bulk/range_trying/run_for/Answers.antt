@@ -1,6 +1,8 @@
-use Rattle.std.proofs.Common.{refl, ◌∙◌}
+use Rattle.std.proofs.Common.{length, refl, sym, ◌∙◌, subst, arith}
+use Rattle.running.specs.Passes.{pass_in}
+use Rattle.treiber_stack.specs.RangeTrying.{MadeAtMost}
 use Rattle.treiber_stack.specs.Stack.{begun_of}
-use Rattle.treiber_stack.proofs.RangeTook.{comes, goes, ends}
+use Rattle.treiber_stack.proofs.RangeTook.{comes, goes, ends, most}
 use Rattle.treiber_stack.proofs.bulk.range_trying.run_for.Goals as goal
 
 pub loop-round-preserved : goal.loop-round-preserved
@@ -37,3 +39,26 @@ returns-in-Done-after_stop-clause-took g c =
     let now = c.loop-round.invariant.0 was.0 was.1 was.2 in
     let s = done.ensures.stopped (begun_of c.args.on.now r.pass) was.0 r.at.at (back.ensures.ran was.0 now.0.at) now.1 in
     ends c.args.steps c.args.op c.loop-round.round r c.loop-round.invariant.1 back.back back.ensures.took done.pass s.0 done.answer s.1
+
+pub returns-in-Again-clause-most : goal.returns-in-Again-clause-most
+returns-in-Again-clause-most g c vs is left =
+    let r = c.loop-round.range in
+    let now = c.loop-round.invariant.0 vs is left in
+    let took = c.in-Again.ensures.took in
+    most c.args.steps c.args.op c.loop-round.round r (length vs) c.loop-round.invariant.1 now.0.at.has.few (pass_in c.in-Again.pass) (omega (arith, took))
+
+pub returns-in-Done-after_stop-clause-most : goal.returns-in-Done-after_stop-clause-most
+returns-in-Done-after_stop-clause-most g c vs is left =
+    let r = c.loop-round.range in
+    let back = c.in-Done in
+    let done = c.in-Done-after_stop in
+    let now = c.loop-round.invariant.0 vs is left in
+    let s = done.ensures.stopped (begun_of c.args.on.now r.pass) vs r.at.at (back.ensures.ran vs now.0.at) now.1 in
+    subst (λ p. MadeAtMost c.args.steps (length vs) (pass_in c.args.op.pass) (pass_in p)) (sym s.0)
+    (most c.args.steps c.args.op c.loop-round.round r (length vs) c.loop-round.invariant.1 now.0.at.has.few (pass_in back.back) back.ensures.took)
+
+pub returns-clause-most : goal.returns-clause-most
+returns-clause-most g c vs is left =
+    let r = c.loop-round.range in
+    let now = c.loop-round.invariant.0 vs is left in
+    most c.args.steps c.args.op c.loop-round.round r (length vs) c.loop-round.invariant.1 now.0.at.has.few (pass_in r.pass) (omega arith)
