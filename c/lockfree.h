@@ -27,9 +27,8 @@
  * thread that takes the value. Everything that it wrote before a close is visible to a thread that
  * is answered CLOSED. Only the calls that make a container, _split, _free, the first _finish of a
  * container, _range_add and _range_put take or give back memory. No call waits for another thread:
- * it is proved that each returns, and how many steps it makes at most, but for the way back of a
- * range that is refused (docs/c-api.md). The inline functions at the end continue until they have
- * another answer than BUSY.
+ * it is proved that each returns, and how many steps it makes at most (docs/c-api.md). The inline
+ * functions at the end continue until they have another answer than BUSY.
  */
 #ifndef LOCKFREE_H
 #define LOCKFREE_H

@@ -37,7 +37,7 @@ use Rattle.treiber_stack.specs.declared.call_parts.giving.Give.TheVariants.{Load
 use Rattle.treiber_stack.specs.declared.call_parts.refusing.Barred.{Barred}
 use Rattle.treiber_stack.specs.declared.call_parts.refusing.Barred.TheVariants.{Closed, Spent}
 use Rattle.treiber_stack.specs.declared.life.stack.Stack.{Stack}
-use Rattle.lockfree_c.specs.Stacks.{RangeTook, RangeTookFrom, RangeWentOn, StackMade}
+use Rattle.lockfree_c.specs.Stacks.{RangeTook, RangeTookFrom, RangeWentOn, RangeWorkedAtMost, StackMade}
 use Rattle.lockfree_c.specs.declared.calls.stack.StackWork.TheVariants.{RangePut, Copy}
 use Rattle.lockfree_c.specs.declared.work.Said.TheVariants as said
 use Rattle.lockfree_c.specs.declared.work.Worked.TheVariants.{Again, Done}
@@ -128,3 +128,6 @@ module _ (c : Stack ℕ) (vs : List ℕ) (op : RangeOp ℕ) (is : IsRangeOp c vs
 pub at_once : (n : ℕ) (v : PassView ℕ) (back : _) (answer : Result Ranged RangeRefused) → pass_in back ≡ v → RangeTookFrom n v (Done back (said.Range answer))
 at_once n v back (Ok put) same = let steps : (pass_in back).steps ≡ v.steps = ap (λ (w : PassView ℕ). w.steps) same in omega (arith, steps)
 at_once n v back (Err why) same = tt
+
+pub most_at_once : (n : ℕ) (values : List ℕ) (v : PassView ℕ) (back : _) (answer : Result Ranged RangeRefused) → pass_in back ≡ v → RangeWorkedAtMost n values v (Done back (said.Range answer))
+most_at_once n values v back answer same = let steps : (pass_in back).steps ≡ v.steps = ap (λ (w : PassView ℕ). w.steps) same in omega (arith, steps)

@@ -1,5 +1,5 @@
 -- How a stack is read, and what its works give.
-use Rattle.std.specs.Prelude.{◌≡◌, ℕ, ◌+◌, List, [], false, Option, IsSome, Ok, Err}
+use Rattle.std.specs.Prelude.{◌≡◌, ℕ, ◌+◌, ◌*◌, List, [], length, false, Option, IsSome, Ok, Err}
 use Rattle.std.specs.List.{AllByRecursion as Every}
 use Rattle.bounded_model.specs.Laws.{Answers}
 use Rattle.bounded_model.specs.declared.answers.Stepped.TheVariants as stepped
@@ -64,6 +64,10 @@ RangeTookFrom n v (Done back (said.Range (Ok put))) = ranging.MadeWith n put.cou
 RangeTookFrom n v (Done back (said.Range (Err why))) = Unit {0}
 RangeTookFrom n v made = ⊥
 
+-- a put of these values was tried for n steps a part, and has made at most so many more, whatever it came to: `RangeMost` of the stack
+abbrev pub RangeWorkedAtMost : ℕ → List ℕ → PassView ℕ → StackMade → Type 0
+RangeWorkedAtMost n values v made = WorkedAtMost (length values * (n + 2) + 2 * n) v made
+
 module _ (c : Stack) where
   -- a fold from this end, that had handed out these values and its pass began as v, was tried
   abbrev pub FoldTried : Front → List ℕ → PassView ℕ → StackMade → Type 0
@@ -102,13 +106,16 @@ module _ (c : Stack) where
   -- a put of a range, and one of an array, were begun and tried
   abbrev pub RangePutBy : ℕ → List ℕ → PassView ℕ → StackMade → Type 0
   RangePutBy tries values v made = ((left : List (Option ℕ)) × RangeTried values v left made) × RangeTookFrom (bulk_steps tries) v made
+      × RangeWorkedAtMost (bulk_steps tries) values v made
 
   abbrev pub Copied : ℕ → List ℕ → PassView ℕ → StackMade → Type 0
   Copied tries values v made = CopyTried values v made × RangeTookFrom (bulk_steps tries) v made
+      × RangeWorkedAtMost (bulk_steps tries) values v made
 
   -- a put of an array that was under way was tried further
   abbrev pub CopiedOn : ℕ → List ℕ → ranging.RangeOp ℕ → StackMade → Type 0
   CopiedOn tries values op made = CopyTried values (stack.begun_of c op.pass) made × RangeTook (bulk_steps tries) op made
+      × RangeWorkedAtMost (bulk_steps tries) values (passes.pass_in op.pass) made
 
   -- a fold that has handed out some values, a range that has a value in each place, the put of one, or of an array
   abbrev pub IsStackWork : StackWork → Type 0
@@ -125,6 +132,7 @@ module _ (c : Stack) where
   StackWorksOn tries (RangePut op places) made = ((left : List (Option ℕ))
       × ((values : List ℕ) → ranging.IsRanging c values places.items op → RangeTried values (stack.begun_of c op.pass) left made))
       × RangeTook (bulk_steps tries) op made
+      × ((values : List ℕ) → ranging.IsRanging c values places.items op → RangeWorkedAtMost (bulk_steps tries) values (passes.pass_in op.pass) made)
   StackWorksOn tries (Range by places) made = made ≡ Waits (Range by places)
   StackWorksOn tries (Copy op) made = made ≡ Waits (Copy op)
 

@@ -6,7 +6,7 @@ ghost use Rattle.treiber_stack.specs.FoldOp.{IsFolding};
 ghost use Rattle.treiber_stack.specs.RangeTrying.{IsRanging};
 ghost use Rattle.treiber_stack.specs.Stack.{begun_of};
 ghost use Rattle.running.specs.Passes.{pass_in};
-ghost use Rattle.lockfree_c.specs.Stacks.{CopiedOn, FoldTried, RangeTook, RangeTried, WorkedAtMost, bulk_steps};
+ghost use Rattle.lockfree_c.specs.Stacks.{CopiedOn, FoldTried, RangeTook, RangeTried, RangeWorkedAtMost, WorkedAtMost, bulk_steps};
 
 use crate::calls::BoundedCalls;
 use crate::steps::{STACK_BULK, steps_for};
@@ -52,6 +52,8 @@ pub fn range_on(
     ensures tried { (left : List (Option ℕ)) × ((vs : List ℕ) → IsRanging stack.now vs values.items op
         → RangeTried stack.now vs (begun_of stack.now op.pass) left result) }
     ensures took { RangeTook (bulk_steps tries) op result }
+    ensures most { (vs : List ℕ) → IsRanging stack.now vs values.items op
+        → RangeWorkedAtMost (bulk_steps tries) vs (pass_in op.pass) result }
 {
     let mut values = values;
     let made = stack.run_range_for(op, &mut values, steps_for(STACK_BULK, tries));

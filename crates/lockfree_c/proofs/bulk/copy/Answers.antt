@@ -1,7 +1,7 @@
 use Rattle.std.proofs.Common.{subst}
 use Rattle.running.specs.Kept.{pass_in}
-use Rattle.lockfree_c.specs.Stacks.{CopyTried, bulk_steps}
-use Rattle.lockfree_c.proofs.Ranges.{at_once, took_from}
+use Rattle.lockfree_c.specs.Stacks.{CopyTried, RangeWorkedAtMost, bulk_steps}
+use Rattle.lockfree_c.proofs.Ranges.{at_once, most_at_once, took_from}
 use Rattle.lockfree_c.proofs.bulk.copy.Goals as goal
 
 pub copy_on-requires : goal.copy_on-requires
@@ -14,7 +14,13 @@ returns-in-Again c =
     let starts = c.in-Again.ensures in (
       subst (λ v. CopyTried stack values v c.copy_on.result) starts.0.1 c.copy_on.ensures.0,
       took_from stack values c.in-Again.op starts.0.0 (pass_in c.args.by) starts.0.1 starts.2 (bulk_steps c.args.tries) starts.1 c.copy_on.result c.copy_on.ensures.1,
+      subst (λ v. RangeWorkedAtMost (bulk_steps c.args.tries) values v c.copy_on.result) starts.2 c.copy_on.ensures.2,
     )
 
 pub returns-in-Done : goal.returns-in-Done
-returns-in-Done c = (c.in-Done.ensures.0, at_once (bulk_steps c.args.tries) (pass_in c.args.by) c.in-Done.by c.in-Done.said c.in-Done.ensures.2)
+returns-in-Done c =
+    let n = bulk_steps c.args.tries in (
+      c.in-Done.ensures.0,
+      at_once n (pass_in c.args.by) c.in-Done.by c.in-Done.said c.in-Done.ensures.2,
+      most_at_once n c.args.values.now (pass_in c.args.by) c.in-Done.by c.in-Done.said c.in-Done.ensures.2,
+    )
