@@ -26,9 +26,10 @@
  * changed but what is said here. Everything that a thread wrote before a put is visible to the
  * thread that takes the value. Everything that it wrote before a close is visible to a thread that
  * is answered CLOSED. Only the calls that make a container, _split, _free, the first _finish of a
- * container, _range_add and _range_put take or give back memory. No call waits for another thread:
- * it is proved that each returns, and how many steps it makes at most (docs/c-api.md). The inline
- * functions at the end continue until they have another answer than BUSY.
+ * container, _range_add, _range_put and a _go_on that ends one take or give back memory. No call
+ * waits for another thread: it is proved that each returns, and how many steps one with tries makes
+ * at most (docs/c-api.md). The inline functions at the end continue until they have another answer
+ * than BUSY.
  */
 #ifndef LOCKFREE_H
 #define LOCKFREE_H
@@ -315,8 +316,8 @@ static inline uint64_t lockfree_finish_all(lockfree_handle *root,
     return count;
 }
 
-/* Takes all values of a stack at once and hands them to `use`, which makes no call with this pass.
- * OK, or why there were none; *count is how many. */
+/* Takes all values of a stack by one compare-and-swap and hands them to `use`, which makes no call
+ * with this pass. OK, or why there were none; *count is how many. */
 static inline uint32_t lockfree_consume_all_atomic(lockfree_handle *pass, bool reversed,
                                                    void (*use)(uint64_t value, void *with),
                                                    void *with, uint64_t *count)
@@ -330,8 +331,8 @@ static inline uint32_t lockfree_consume_all_atomic(lockfree_handle *pass, bool r
     return answer.code;
 }
 
-/* Puts the values of an array onto a stack at once, from the first: as many as cells can be had.
- * Never BUSY. */
+/* Puts the values of an array onto a stack by one compare-and-swap, from the first: as many as
+ * cells can be had. Never BUSY. */
 static inline lockfree_answer lockfree_push_range(lockfree_handle *pass, const uint64_t *values,
                                                   size_t count)
 {

@@ -81,7 +81,8 @@ public:
         return of ? of->room : 0;
     }
     /// True: no push and no pop waits for another thread, but for the lock of a thread's first
-    /// call, and of values in cells if more than 64 threads have called a queue or a stack.
+    /// call, of values in cells if more than 64 threads have called a queue or a stack, and of a
+    /// call from the function of a consume_all_atomic or a destructor of a thread_local object.
     bool is_lock_free() const noexcept { return true; }
     static constexpr bool is_always_lock_free = true;
 
