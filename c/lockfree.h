@@ -117,7 +117,8 @@ uint32_t lockfree_stack_limited(lockfree_handle *root, uint32_t capacity, uint64
 /* A new ring for this number of passes, and its root in an empty handle. BAD_CAPACITY exactly if
  * the capacity is less than 1, the passes are not 2 to 65,535, or the two together are more than
  * 1,048,575. Each slot can be filled 2^41 - 1 times: a ring of capacity n takes n * (2^41 - 1)
- * values in its life, if each pass ends its calls; then puts are SPENT, and takes still succeed.
+ * values in its life, if each pass ends its calls; then puts are SPENT (or FULL while the slot at
+ * the back has its last value), and takes still succeed.
  * _limited: each slot can be filled `laps` times, 1 to 2^41 - 1, else it is BAD_CAPACITY too: for
  * tests of what a program does once a ring is SPENT.
  * A pass that is freed is not given again: it counts among those that the ring was made for.
