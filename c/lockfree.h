@@ -2,9 +2,9 @@
  * The functions are proved; the inline ones at the end are tested.
  *
  * Which one: a stack gives the last value first, a queue and a ring the first. Between threads a
- * ring is faster than a queue. It takes half the memory and lasts longer, but is made for a number
- * of passes. So take the ring if you know how many passes there will be, and the queue if you do
- * not.
+ * ring is faster than a queue. From 64 slots on it takes half the memory, and with more than 2 it
+ * lasts longer, but it is made for a number of passes. So take the ring if you know how many passes
+ * there will be, and the queue if you do not.
  *
  * The library keeps a handle in your memory: a root or a pass of one container. All zero bytes are
  * an empty handle. A root gives passes, one to each thread. A pass makes the calls. Each handle has
@@ -26,10 +26,10 @@
  * changed but what is said here. Everything that a thread wrote before a put is visible to the
  * thread that takes the value. Everything that it wrote before a close is visible to a thread that
  * is answered CLOSED. Only the calls that make a container, _split, _free, the first _finish of a
- * container, _range_add, _range_put and a _go_on that ends one take or give back memory. No call
- * waits for another thread: it is proved that each returns, and how many steps one with tries makes
- * at most (docs/c-api.md). The inline functions at the end continue until they have another answer
- * than BUSY.
+ * container, _range_add, _range_put and a _go_on that ends one take or give back memory. Apart from
+ * what malloc and free do, no call waits for another thread: it is proved that each returns, and
+ * how many steps one with tries makes at most (docs/c-api.md). The inline functions at the end
+ * continue until they have another answer than BUSY.
  */
 #ifndef LOCKFREE_H
 #define LOCKFREE_H
@@ -53,16 +53,18 @@ enum {
     LOCKFREE_EMPTY = 2,         /* take, fold: no value, and more may come. look: it was empty.
                                    range_put, put_range: of no value. finish: nothing is left */
     LOCKFREE_CLOSED = 3,        /* put: closed. take, fold: no value, and none will come. close: it
-                                   was closed before. gauge: it was closed, and value is as if it is
-                                   OK */
+                                   was closed before. gauge: it was closed; value is the same as
+                                   with OK */
     LOCKFREE_SHUT = 4,          /* take, fold: shut. shut: it was shut before */
-    LOCKFREE_SPENT = 5,         /* put, take, fold: a tag is at its limit, 2^42 - 1 or that of
-                                   _limited; value is the tag. In a ring, put alone: the slot was
-                                   filled as often as its laps say; value is twice the laps */
+    LOCKFREE_SPENT = 5,         /* a put, also of a range, and a take or a fold of a stack: a tag is
+                                   at its limit, 2^42 - 1 or that of _limited; value is the tag. A
+                                   put of a ring: the slot was filled as often as its laps say;
+                                   value is twice the laps */
     LOCKFREE_BUSY = 6,          /* the tries are used up: continue with lockfree_go_on; after
                                    lockfree_put_range with the same call */
-    LOCKFREE_UNDER_WAY = 7,     /* the pass has a call under way: lockfree_go_on first. Or a range's
-                                   values: lockfree_range_put first */
+    LOCKFREE_UNDER_WAY = 7,     /* the pass has a call under way: lockfree_go_on first (after a
+                                   lockfree_put_range the same call again). Or a range's values:
+                                   lockfree_range_put first */
     LOCKFREE_NO_CALL = 8,       /* go_on: the pass has no call under way, or one that
                                    lockfree_put_range continues */
     LOCKFREE_NO_MEMORY = 9,
@@ -110,7 +112,8 @@ uint32_t lockfree_stack_new(lockfree_handle *root, uint32_t capacity);
 
 /* The same, with a limit for its tags, 2 to 2^42 - 1: for tests of what a program does once a
  * container is SPENT. A queue of limit n takes n or n - 1 values in its life, and a stack makes n
- * puts and takes in all; puts that find it closed count too. */
+ * puts and takes in all. Puts that find it closed use up tags of its free cells, so at last they
+ * are SPENT instead of CLOSED; a gauge does not count them. */
 uint32_t lockfree_queue_limited(lockfree_handle *root, uint32_t capacity, uint64_t tag_limit);
 uint32_t lockfree_stack_limited(lockfree_handle *root, uint32_t capacity, uint64_t tag_limit);
 
@@ -131,9 +134,9 @@ uint32_t lockfree_ring_limited(lockfree_handle *root, uint32_t capacity, uint64_
 uint32_t lockfree_split(lockfree_handle *root, lockfree_handle *pass);
 
 /* Gives up a root or a pass, and empties the handle. A call that is under way ends where it is: its
- * value is out of reach, and its cell stays held; of a fold, all that it has not handed out are,
- * and the cells of all; of a range_put, all of its values, and the cells that it has. OK,
- * NO_HANDLE. */
+ * value is out of reach, and its cell stays held. Of a fold, the values that it has not handed out
+ * are out of reach, and all of its cells stay held. Of a range_put, all of its values are out of
+ * reach, and the cells that it has stay held. OK, NO_HANDLE. */
 uint32_t lockfree_free(lockfree_handle *handle);
 
 /* Ends a container whose root is its only handle, and hands out what is left in it, one value an
@@ -145,10 +148,10 @@ uint32_t lockfree_free(lockfree_handle *handle);
  * VALUE, EMPTY, SHARED, OTHER_HANDLE, NO_HANDLE. */
 lockfree_answer lockfree_finish(lockfree_handle *root);
 
-/* The calls of a pass. Each first tries its fast path. If that does not end the call, it makes at
- * most as many steps more as an undisturbed call makes, and those of `tries` tries more; 0 is
- * allowed. If it has not ended then, it returns BUSY and is under way: lockfree_go_on continues it,
- * and returns what the call would have returned.
+/* The calls of a pass. A put, a take and a look first try a fast path. If a call has not ended
+ * then, it makes at most as many steps more as an undisturbed call makes, and those of `tries`
+ * tries more; 0 is allowed. If it has not ended then, it returns BUSY and is under way:
+ * lockfree_go_on continues it, and returns what the call would have returned.
  * All: BUSY, UNDER_WAY, OTHER_HANDLE, NO_HANDLE.
  * put:   OK, FULL, CLOSED, SPENT
  * take:  OK, EMPTY, CLOSED, SHUT, SPENT

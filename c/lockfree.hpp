@@ -21,17 +21,19 @@
 // push_wait and pop_wait wait for room or a value, until the container is closed or a stop says so.
 // They poll; lockfree/blocking.hpp has calls that are woken.
 //
-// Exceptions. Constructors throw std::bad_alloc, and std::invalid_argument for a capacity that is
-// not 1 to 1,048,573. split, and calls that return a bool or a number, throw std::bad_alloc or
-// std::length_error if a thread's first call finds no memory or no pass. Each has a form that
-// begins with try_, which returns a status and throws nothing of its own. With -fno-exceptions a
-// call that would throw ends the program; `make` and calls that return a status do not. Files with
-// and without exceptions have containers of different types, and may be linked together.
+// Exceptions. Constructors throw std::bad_alloc, std::invalid_argument for a capacity or a limit
+// that is out of range (a capacity is 1 to 1,048,573), and std::logic_error if the archive is of
+// another version. split, and calls that return no status and whose names do not begin with try_,
+// throw std::bad_alloc or std::length_error if there is no memory or no pass, as in a thread's
+// first call (pop_wait throws neither). Each has a form that begins with try_, which throws nothing
+// of its own, and most of these return a status. With -fno-exceptions a call that would throw ends
+// the program; `make` and calls that return a status do not. Files with and without exceptions have
+// containers of different types, and may be linked together.
 //
 // Wear. A queue takes up to 2^42 - 1 values in its life, a stack makes 2^42 - 1 pushes and pops. At
 // ten million pushes and pops a second that is five days for a queue, and two and a half for a
-// stack. A ring takes 2^41 - 1 times its capacity. Then it is spent: each push says so, and
-// `finish` or the destructor gets what is left. `wear()` says which part is used.
+// stack. A ring takes 2^41 - 1 times its capacity. Then it is spent: no push succeeds, and no pop
+// of a stack; `finish` or the destructor gets what is left. `wear()` says which part is used.
 //
 // Do not: call from a signal handler, or in the child of a fork of a process with threads; unload a
 // shared object whose code is in a call.
@@ -71,9 +73,9 @@ public:
 
 /// A bounded queue for a known number of threads, faster than `queue` if several threads use it,
 /// with the same calls. Options: capacity<N>, or none and the capacity for the constructor. It also
-/// takes a pass_limit: as many threads at a time can have called it, with the passes of `split`.
-/// One more gets status::no_pass, or std::length_error from calls that say bool. When a thread
-/// ends, or a pass of `split` is destroyed, the next thread can have its pass.
+/// takes a pass_limit: the number of passes that may be out at a time, those of threads and of
+/// `split` together. One more gets status::no_pass, or std::length_error. When a thread ends, or a
+/// pass of `split` is destroyed, the next thread can have its pass.
 ///
 ///     lockfree::ring_queue<T> ring(128, lockfree::pass_limit{8});   // 256 if there is no number
 template <class T, class... Options> class ring_queue

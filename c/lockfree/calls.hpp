@@ -36,14 +36,15 @@ template <class T, class Arg> inline constexpr bool is_one_rvalue<T, Arg> = std:
 
 /// The calls that all containers and their passes have, beside those of gauges.hpp and bulk.hpp.
 /// Any number of threads may call a container at a time, and one thread a pass. A thread's first
-/// call of a container takes a lock and memory. The others take neither, unless their comment says
-/// so. Each call takes effect at one moment, and fails to end only while other threads' calls
-/// succeed: both are proved of the algorithms, and docs/proof.md says what is proved of the code.
+/// call of a container takes a lock and memory. The others take neither, but for what
+/// is_lock_free() and cells.hpp name. Each push and pop of one value takes effect at one moment,
+/// and fails to end only while other threads' calls succeed: both are proved of the algorithms, and
+/// docs/proof.md says what is proved of the code.
 ///
-/// Calls that say bool throw std::bad_alloc or std::length_error if a thread's first call finds no
-/// memory or no pass. Each has a form that begins with try_, returns a `status` instead, and throws
-/// nothing of its own. Exceptions of the value's own functions pass to the caller; then nothing is
-/// pushed.
+/// Calls that return no status and whose names do not begin with try_ throw std::bad_alloc or
+/// std::length_error if a thread's first call finds no memory or no pass (pop_wait throws neither).
+/// Each has a form that begins with try_ and throws nothing of its own. Exceptions of the value's
+/// own functions pass to the caller; then nothing is pushed.
 template <class Me, class T, kind K> class calls {
 public:
     /// Pushes a copy. False if it is full, closed or spent.
@@ -130,7 +131,8 @@ public:
             if (!again()) return status::stopped;
         }
     }
-    /// The next value, or nothing if the container ends or the stop says so.
+    /// The next value, or nothing if the container ends, the stop says so, or the thread's first
+    /// call finds no memory or no pass. Use pop_wait(to) to tell these apart.
     [[nodiscard]] std::optional<T> pop_wait() { return pop_wait_until(never_stops()); }
     template <class Stop> [[nodiscard]] std::optional<T> pop_wait_until(Stop &&stop) {
         auto again = detail::waits_for(detail::asks(stop));

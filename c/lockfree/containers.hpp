@@ -121,16 +121,18 @@ public:
     using pass = pass_of<T, K>;
     using limits = detail::limits<K>;
 
-    /// With capacity<N>. Takes all memory that pushes and pops need, whatever T is. std::bad_alloc,
-    /// and of limits std::invalid_argument.
+    /// With capacity<N>. Takes all memory that pushes and pops need, whatever T is, but for a
+    /// thread's first call and what cells.hpp names. std::bad_alloc, std::logic_error, and of
+    /// limits std::invalid_argument.
     template <bool Sized = sized, class = std::enable_if_t<Sized>> container()
         : container(adopted{made(given::size, limits())}) {}
     template <class First, class... More, bool Sized = sized,
               class = std::enable_if_t<Sized && are_limits<K, First, More...>>>
     explicit container(First limit, More... more)
         : container(adopted{made(given::size, limits(limit, more...))}) {}
-    /// With fixed_sized<true>, and a ring without capacity<N>. Room for 1 to 1,048,573 values.
-    /// std::bad_alloc, std::invalid_argument.
+    /// With fixed_sized<true>, and a ring without capacity<N>. Room for 1 to 1,048,573 values, of a
+    /// ring with the usual passes for at most 1,048,318. std::bad_alloc, std::invalid_argument,
+    /// std::logic_error.
     template <class... Limits, bool Sized = sized,
               class = std::enable_if_t<!Sized && are_limits<K, Limits...>>>
     explicit container(size_type room, Limits... most)
@@ -157,7 +159,7 @@ public:
     container(const container &) = delete;
     container &operator=(const container &) = delete;
     /// No thread calls any more but by passes of `split`. All values that are left end, whoever
-    /// pushed them; if it is spent or shut and passes are out, with the last of these.
+    /// pushed them; if passes are out and it is shut, or is a spent stack, with the last of these.
     ~container() {
         if (!of->has_one_user()) end_left<T>(*of);
         if (state_of_thread == thread_state::calls) mine().forget(*of);

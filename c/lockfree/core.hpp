@@ -72,7 +72,8 @@ public:
     /// What some call has heard. They change once.
     std::atomic<bool> closed{false}, spent{false};
 
-    /// A seat that nobody has, or why there is none. It stays where it is. OK, NO_MEMORY, NO_PASS.
+    /// A seat that nobody has, or why there is none. Its address never changes. OK, NO_MEMORY,
+    /// NO_PASS.
     std::uint32_t take_seat(seat *&to) noexcept {
         const std::lock_guard<std::mutex> guard(lock);
         if (!resting) return make_seat(to);

@@ -13,7 +13,8 @@ namespace detail {
 
 /// Each call that may throw std::bad_alloc or std::length_error, since it may be a thread's first
 /// call of the container, has a form that begins with try_ and throws nothing: it returns ok,
-/// no_memory or no_pass, and puts its answer into `to`.
+/// no_memory or no_pass, and puts its answer into `to`. Of try_close and try_shut the answer is the
+/// status: closed or shut if it was so before.
 template <class Me, kind K> class gauges {
 public:
     /// No push follows. Pops go on until it is empty, and then say closed. Whether this call closed
@@ -81,15 +82,16 @@ public:
         return of ? of->room : 0;
     }
     /// True: no push and no pop waits for another thread, but for the lock of a thread's first
-    /// call, of values in cells if more than 64 threads have called a queue or a stack, and of a
-    /// call from the function of a consume_all_atomic or a destructor of a thread_local object.
+    /// call, of values in cells if more than 64 threads have called a queue or a stack, of a push
+    /// that makes a cell, and of a call from the function of a consume_all_atomic or a destructor
+    /// of a thread_local object.
     bool is_lock_free() const noexcept { return true; }
     static constexpr bool is_always_lock_free = true;
 
     /// The part of its life that the container had used at one moment of the call, from 0 to 1. A
     /// queue takes up to 2^42 - 1 values in its life, a stack makes 2^42 - 1 pushes and pops, a
-    /// ring takes 2^41 - 1 times its capacity. Then it is spent, and each push says so, each pop of
-    /// a stack too. 1 after `finish`.
+    /// ring takes 2^41 - 1 times its capacity. Then it is spent: no push succeeds, and no pop of a
+    /// stack. 1 after `finish`.
     double wear() const { return answered<double>(&gauges::try_wear); }
     status try_wear(double &to) const noexcept {
         const core *const of = me().shared();

@@ -33,8 +33,8 @@ struct tag_limit {
 
 /// For a ring's constructor: how many passes are out at a time at most, of threads that have called
 /// it and of `split` together. 1 to 65,534, and with the capacity at most 1,048,574. A ring that is
-/// given none has 256, which cost 5 KiB, and 13 to 24 KiB more for values in cells: as many threads
-/// as a server has, and fewer if it has a ring for each connection.
+/// given none has 256, which cost 5 KiB, and 23 KiB more for values in cells (17 KiB from 1 KiB a
+/// value on). Give a lower number if you make many rings.
 struct pass_limit {
     std::size_t most;
 };

@@ -17,11 +17,11 @@ inline namespace LOCKFREE_NAMES {
 enum class [[nodiscard]] status : std::uint32_t{
     ok = LOCKFREE_OK,
     full = LOCKFREE_FULL,            ///< A push: no room now.
-    empty = LOCKFREE_EMPTY,          ///< A pop: no value now; more may come.
+    empty = LOCKFREE_EMPTY,          ///< A pop: no value now; more may come, unless it is spent.
     closed = LOCKFREE_CLOSED,        ///< A push: closed. A pop: closed, and no value is left.
     shut = LOCKFREE_SHUT,            ///< A pop: shut. Nothing comes out any more.
     spent = LOCKFREE_SPENT,          ///< The container is worn out: see `wear()`.
-    no_memory = LOCKFREE_NO_MEMORY,  ///< The thread's first call found no memory for its pass.
+    no_memory = LOCKFREE_NO_MEMORY,  ///< There was no memory for a pass, a cell or a range.
     no_pass =
         LOCKFREE_NO_PASS,  ///< As many passes are out as there may be; or the pass is an empty one.
     shared = LOCKFREE_SHARED,  ///< finish: a pass of `split()` is still out.

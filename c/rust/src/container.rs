@@ -107,13 +107,12 @@ macro_rules! of_all_passes {
 macro_rules! container {
     ($Container:ident, $Pass:ident) => {
         impl<T> $Container<T> {
-            /// A pass, for one thread at a time: one that was dropped, or a new one, which takes memory. It takes a lock, which
-            /// no call of a pass does.
+            /// A pass, for one thread at a time: one that was dropped, or a new one, which takes memory. It takes a lock.
             ///
             /// # Errors
             ///
             /// [`MakeError::NoPass`] if 65,534 are out at this time, or in a ring as many as it was made for, and
-            /// [`MakeError::NoMemory`]. A later call may succeed.
+            /// [`MakeError::NoMemory`]. A later call may succeed. A pass that a call by `&` is using counts as out.
             ///
             /// ```
             #[doc = concat!("let container = lockfree::", stringify!($Container), "::new(4).unwrap();")]
@@ -299,8 +298,8 @@ macro_rules! counts {
                 core.by_any_seat(|seat| core.len(seat))
             }
 
-            /// Whether it held as many values as its capacity. A push may be refused as full earlier, while other pushes and pops
-            /// are under way.
+            /// Whether it held as many values as its capacity. A push of a queue may be refused as full earlier, while other
+            /// pushes and pops are under way.
             ///
             /// ```
             #[doc = concat!("let container = lockfree::", stringify!($Container), "::new(1).unwrap();")]
@@ -327,8 +326,8 @@ macro_rules! counts {
                 self.core.len(&mut self.seat)
             }
 
-            /// Whether the container held as many values as its capacity. A push may be refused as full earlier, while other
-            /// pushes and pops are under way.
+            /// Whether the container held as many values as its capacity. A push of a queue may be refused as full earlier,
+            /// while other pushes and pops are under way.
             ///
             /// ```
             #[doc = concat!("let container = lockfree::", stringify!($Container), "::new(1).unwrap();")]

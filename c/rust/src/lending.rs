@@ -1,5 +1,5 @@
 //! Seats for calls by `&`, whose threads have no pass. A container has its own seat, and places for more of them. A call
-//! takes hold of one by one atomic exchange, and leaves it when it ends. A thread begins where it was last, at first with
+//! takes one with a single atomic exchange, and leaves it when it ends. A thread begins where it was last, at first with
 //! the container's own seat. So threads that never call at the same time share a seat, and those that do soon have one
 //! each. Nothing is kept of a thread, so a thread and a container may end in any order.
 use crate::shared::Seat;

@@ -40,10 +40,11 @@ pub type RingPass<T> = Pass<T, kind::Ring>;
 /// shared::<lockfree::QueuePass<u64>>();
 /// ```
 ///
-/// Calls whose names say `wait` wait for another thread; no other call does. A stack's `push_range` asks for memory; no other
-/// call does. A call of a ring takes no lock. Nor does one of a queue or a stack, unless its values are larger than 8 bytes
-/// and more than 64 passes were out at one time. A pass keeps what it needs if its container is dropped, but not the values
-/// that were in the container then. It goes back to the container, under a lock, when it is dropped itself.
+/// Only calls with `wait` in their names wait for room or a value. Only `push_range` of a stack and `try_clone`, which
+/// takes a lock too, take memory. Any other call of a ring takes no lock. Nor does one of a queue or a stack, unless its
+/// values are larger than 8 bytes and more than 64 passes were out at one time. A pass keeps what it needs if its
+/// container is dropped, but not the values that were in the container then. It goes back to the container, under a lock,
+/// when it is dropped itself.
 ///
 /// If a call says that something is so, it was so at one moment of the call: other threads may have changed it since.
 #[repr(align(64))] // (of cache lines of its own, since its calls write to the seat)
@@ -250,9 +251,9 @@ impl<T, K> Pass<T, K> {
         self.core.capacity
     }
 
-    /// Which part of the container's life has gone, 0 to 1. A queue has numbers for 2^42 - 2 pushes, a stack for 2^42 - 1
-    /// pushes and pops, a ring for 2^41 - 1 times its capacity of pushes; then each push is `Spent`. That takes more than a
-    /// day of calls without a pause. A program that runs for so long replaces its container before.
+    /// Which part of the container's life has gone, 0 to 1. A queue has numbers for 2^42 - 1 pushes, or one fewer, a stack
+    /// for 2^42 - 1 pushes and pops, a ring for 2^41 - 1 times its capacity of pushes; then no push succeeds. That takes
+    /// more than a day of calls without a pause. A program that runs for so long replaces its container before.
     ///
     /// ```
     /// let queue = lockfree::Queue::with_tag_limit(1, 1001).unwrap();

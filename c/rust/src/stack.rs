@@ -21,8 +21,9 @@ pub struct Pushed<T> {
 
 impl<T> StackPass<T> {
     /// Pushes values by one compare-and-swap, from the first, as many as there is room for: other threads see all of these
-    /// or none. The last one is on top. The iterator gives at most as many values as the capacity; the rest stays in it. The
-    /// call takes memory for these values. Pops give back the memory of values over 8 bytes.
+    /// or none. The last one is on top. It takes at most as many values from the iterator as the capacity; the rest is
+    /// dropped with the iterator, unless you pass `&mut iterator`. The call takes memory for these values. Pops give back
+    /// the memory of values over 8 bytes.
     ///
     /// # Errors
     ///

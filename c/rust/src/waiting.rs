@@ -5,8 +5,8 @@ use std::sync::atomic::{AtomicBool, Ordering};
 use std::thread::{sleep, yield_now};
 use std::time::{Duration, Instant};
 
-/// What ends the wait of [`push_wait`](crate::Pass::push_wait) and [`pop_wait`](crate::Pass::pop_wait), if there is no room
-/// and no value:
+/// What ends the wait of [`push_wait`](crate::Pass::push_wait) and [`pop_wait`](crate::Pass::pop_wait), while there is no
+/// room or no value:
 ///
 /// - `None`: nothing does
 /// - a [`Duration`]: that much time since the call was refused for the first time
