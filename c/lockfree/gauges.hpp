@@ -81,10 +81,12 @@ public:
         const core *const of = me().shared();
         return of ? of->room : 0;
     }
-    /// True: no push and no pop waits for another thread, except for a lock in these cases. A
-    /// thread calls for the first time. Values lie in cells, and more than 64 threads have called a
-    /// queue or a stack. A push makes a cell. The call is made in the function of a
-    /// consume_all_atomic or a destructor of a thread_local object.
+    /// True: no push and no pop waits for another thread, except for a lock in these cases:
+    /// - a thread calls for the first time,
+    /// - values lie in cells, and more than 64 threads have called a queue or a stack,
+    /// - a push makes a cell,
+    /// - the call is made in the function of a consume_all_atomic or in a destructor of a
+    ///   thread_local object.
     bool is_lock_free() const noexcept { return true; }
     static constexpr bool is_always_lock_free = true;
 
