@@ -1,5 +1,5 @@
-// Other containers at the work of crates/bench_containers: each producer puts its items, the
-// consumers take them all. With no producer one thread puts and takes in turn.
+// How long an item takes through a container, from its put to its take: each producer puts its items,
+// the consumers take them all. With no producer one thread puts and takes in turn.
 //
 // usage: peers KIND PRODUCERS CONSUMERS ITEMS [WORK]
 //
@@ -10,7 +10,7 @@
 // the item, and room beside it (-DVALUE_BYTES=64). With -DOURS the stack and the queue are those of this repository,
 // as C++ calls them, and there is a ring, and no other.
 //
-// Two runs are made, as there: the first gives nanoseconds per item, the second, with the clock read
+// Two runs are made: the first gives nanoseconds per item, the second, with the clock read
 // before and after each call, the percentiles. A refused caller gives 50 spin hints and then yields.
 
 #include <algorithm>

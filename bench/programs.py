@@ -1,4 +1,4 @@
-"""The programs that bench/compare runs in turns, by the container and the language that calls it."""
+"""The programs that bench/compare runs in turns, by the container."""
 
 import os
 import subprocess
@@ -7,9 +7,8 @@ import sys
 import turns
 
 ROOT = os.path.dirname(os.path.dirname(os.path.abspath(__file__)))
-BENCH = os.path.join(ROOT, "crates", "bench_containers")
 ARCHIVE = os.path.join(ROOT, "c", "out", "liblockfree.a")
-BOOST = ("boost", "C++")
+BOOST = "boost"
 # moodycamel's capacity is a hint, and its least block has room for 32.
 LEAST_OF_MOODYCAMEL = 32
 
@@ -24,17 +23,11 @@ def compiled(folder, archive, source, ours, capacity, size):
     return program
 
 
-def built_by_rattle():
-    subprocess.run(["rt", "run"], check=True, cwd=BENCH, stdout=subprocess.DEVNULL)
-    return f"{BENCH}/out/bench_containers"
-
-
 class Programs:
     """Each method returns the commands of what is measured beside one another."""
 
     def __init__(self, words, folder):
         self.words, self.folder, self.built = words, folder, {}
-        self.rattle = words.program or built_by_rattle()
         self.moodycamel = self.has_moodycamel()
 
     def program(self, *which):
@@ -51,47 +44,34 @@ class Programs:
     def pinned(self, commands, threads):
         return {name: turns.pinned(command, threads, self.words.real_time) for name, command in commands.items()}
 
-    def in_cpp(self, kind, ours, case, work, size=8):
+    def command(self, kind, ours, case, work, size=8):
         capacity, producers, consumers, share = case
         load = (producers, consumers, self.words.items * share, work)
         return [self.program("peers", ours, capacity, size), kind, *map(str, load)]
 
-    def in_rattle(self, kind, case, work):
-        capacity, producers, consumers, share = case
-        load = {"capacity": capacity, "producers": producers, "consumers": max(1, consumers), "items": self.words.items * share, "work": work}
-        words = [it for name, value in load.items() for it in (f"--{name}", str(value))]
-        return [self.rattle, "--kind", kind, *words]
-
-    def both(self, kind, case, work):
-        return {(kind, "C++"): self.in_cpp(kind, True, case, work), (kind, "Rattle"): self.in_rattle(kind, case, work)}
+    def beside_boost(self, kinds, others, case, work, size=8):
+        """Containers of this repository and others, beside Boost's of the last of these kinds."""
+        commands = {BOOST: self.command(kinds[-1], False, case, work, size)}
+        commands |= {kind: self.command(kind, True, case, work, size) for kind in kinds}
+        commands |= {kind: self.command(kind, False, case, work, size) for kind in others}
+        return self.pinned(commands, case[1] + case[2])
 
     def stacks(self, case, work):
-        commands = {BOOST: self.in_cpp("stack", False, case, work), **self.both("stack", case, work)}
-        commands["mutex-stack", "C++"] = self.in_cpp("mutex-stack", False, case, work)
-        return self.pinned(commands, case[1] + case[2])
+        return self.beside_boost(("stack",), ("mutex-stack",), case, work)
 
     def queues(self, case, work):
-        commands = {BOOST: self.in_cpp("queue", False, case, work), **self.both("ring", case, work), **self.both("queue", case, work)}
-        commands["mutex-queue", "C++"] = self.in_cpp("mutex-queue", False, case, work)
-        commands["array-queue", "Rattle"] = self.in_rattle("array-queue", case, work)
-        if self.moodycamel and case[0] > LEAST_OF_MOODYCAMEL:
-            commands["moodycamel", "C++"] = self.in_cpp("moodycamel", False, case, work)
-        return self.pinned(commands, case[1] + case[2])
-
-    def larger(self, boost, kinds, case, size):
-        """Values of a larger size, from C++."""
-        commands = {BOOST: self.in_cpp(boost, False, case, 0, size)}
-        commands |= {(kind, "C++"): self.in_cpp(kind, True, case, 0, size) for kind in kinds}
-        return self.pinned(commands, case[1] + case[2])
+        has_moodycamel = self.moodycamel and case[0] > LEAST_OF_MOODYCAMEL
+        others = ("mutex-queue", "moodycamel") if has_moodycamel else ("mutex-queue",)
+        return self.beside_boost(("ring", "queue"), others, case, work)
 
     def larger_stacks(self, case, size):
-        return self.larger("stack", ("stack",), case, size)
+        return self.beside_boost(("stack",), (), case, 0, size)
 
     def larger_queues(self, case, size):
-        return self.larger("queue", ("ring", "queue"), case, size)
+        return self.beside_boost(("ring", "queue"), (), case, 0, size)
 
     def refusals(self, call):
-        """Calls that change nothing, from C++."""
+        """Calls that change nothing."""
         ours, others = (self.program("refusals", it, 64, 8) for it in (True, False))
         commands = {f"boost {kind}": [others, kind, call] for kind in ("stack", "queue")}
         return self.pinned(commands | {kind: [ours, kind, call] for kind in ("stack", "queue", "ring")}, 1)

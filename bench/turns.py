@@ -6,7 +6,7 @@ import statistics
 import subprocess
 import sys
 
-# The figures of a run, as bench_containers and peers.cpp print them. refusals.cpp prints one, nanoseconds of a call.
+# The figures of a run, as peers.cpp prints them. refusals.cpp prints one, nanoseconds of a call.
 FIGURES = ("per item", "50th", "99th", "99.9th")
 PERCENTILES = {"p50": 1, "p99": 2, "p999": 3}
 P999 = PERCENTILES["p999"]

@@ -14,9 +14,10 @@
  * Five rules that no check can enforce:
  *   - Zero a handle before its first use. Then only the functions below write it. It may be moved
  *     in memory between calls. Never use a copy of it.
- *   - Give a handle to one call at a time. Different handles, also of one container, may be used in
- *     different threads at the same time. If a handle goes to another thread, something orders the
- *     two threads: a start or a join, a lock, or a release and an acquire.
+ *   - Give a handle to one call at a time, never a null pointer, and two handles to a _split.
+ *     Different handles, also of one container, may be used in different threads at the same time.
+ *     If a handle goes to another thread, something orders the two threads: a start or a join, a
+ *     lock, or a release and an acquire.
  *   - malloc, realloc and free belong to one allocator, whose memory is aligned as the C standard
  *     says.
  *   - If a lockfree_put_range was BUSY, call it again with the same array, unchanged.
@@ -25,11 +26,11 @@
  * A code answers any other misuse of a handle, and any other failure of a call. Then nothing has
  * changed but what is said here. Everything that a thread wrote before a put is visible to the
  * thread that takes the value. Everything that it wrote before a close is visible to a thread that
- * is answered CLOSED. Only the calls that make a container, _split, _free, the first _finish of a
- * container, _range_add, _range_put and a _go_on that ends one take or give back memory. Apart from
- * what malloc and free do, no call waits for another thread: it is proved that each returns, and
- * how many steps one with tries makes at most (docs/c-api.md). The inline functions at the end
- * continue until they have another answer than BUSY.
+ * is answered CLOSED. Only the calls that make a container, _split, _free and the first _finish of a
+ * container take or give back memory. Apart from what malloc and free do, no call waits for another
+ * thread: it is proved that each returns, and how many steps one with tries makes at most
+ * (docs/c-api.md). The inline functions at the end continue until they have another answer than
+ * BUSY.
  */
 #ifndef LOCKFREE_H
 #define LOCKFREE_H
@@ -37,6 +38,15 @@
 /* This header's version: 10,000 times the first number, 100 times the second, and the third. A
  * program that may meet another archive than this header's compares it with lockfree_version(). */
 #define LOCKFREE_H_VERSION 200 /* 0.2.0 */
+
+/* The form of what lies behind a handle, which is the archive's own affair: archives of different
+ * forms must not get each other's handles. The names of the C++ headers have this number, so that
+ * objects of one process that were built with different numbers share no inline function. Each
+ * release that changes the form has another number. Define it yourself, as any number, if you link
+ * an archive of your own (changed sources, another kit) beside another one into a process. */
+#ifndef LOCKFREE_LAYOUT
+#define LOCKFREE_LAYOUT 1
+#endif
 
 #include <stdbool.h>
 #include <stddef.h>
@@ -51,7 +61,7 @@ enum {
     LOCKFREE_FULL = 1,          /* put: each cell holds a value or is held by a call; in a ring,
                                    each slot holds a value */
     LOCKFREE_EMPTY = 2,         /* take, fold: no value, and more may come. look: it was empty.
-                                   range_put, put_range: of no value. finish: nothing is left */
+                                   put_range: of no value. finish: nothing is left */
     LOCKFREE_CLOSED = 3,        /* put: closed. take, fold: no value, and none will come. close: it
                                    was closed before. gauge: it was closed; value is the same as
                                    with OK */
@@ -63,8 +73,7 @@ enum {
     LOCKFREE_BUSY = 6,          /* the tries are used up: continue with lockfree_go_on; after
                                    lockfree_put_range with the same call */
     LOCKFREE_UNDER_WAY = 7,     /* the pass has a call under way: lockfree_go_on first (after a
-                                   lockfree_put_range the same call again). Or a range's values:
-                                   lockfree_range_put first */
+                                   lockfree_put_range the same call again) */
     LOCKFREE_NO_CALL = 8,       /* go_on: the pass has no call under way, or one that
                                    lockfree_put_range continues */
     LOCKFREE_NO_MEMORY = 9,
@@ -92,7 +101,7 @@ typedef struct lockfree_handle {
  *   put, OK:                   its number
  *   take, OK:                  the value that was taken
  *   fold, count, OK:           how many values there were
- *   range_put, put_range, OK:  how many values were put
+ *   put_range, OK:             how many values were put
  *   gauge, OK or CLOSED:       how many tags were used; in a ring, how many values were put
  *   number, OK:                the number of the call that ended last
  *   fold, finish, VALUE:       the next value
@@ -135,7 +144,7 @@ uint32_t lockfree_split(lockfree_handle *root, lockfree_handle *pass);
 
 /* Gives up a root or a pass, and empties the handle. A call that is under way ends where it is: its
  * value is out of reach, and its cell stays held. Of a fold, the values that it has not handed out
- * are out of reach, and all of its cells stay held. Of a range_put, all of its values are out of
+ * are out of reach, and all of its cells stay held. Of a put_range, all of its values are out of
  * reach, and the cells that it has stay held. OK, NO_HANDLE. */
 uint32_t lockfree_free(lockfree_handle *handle);
 
@@ -174,7 +183,7 @@ lockfree_answer lockfree_count(lockfree_handle *pass, uint64_t tries);
 lockfree_answer lockfree_gauge(lockfree_handle *pass, uint64_t tries);
 lockfree_answer lockfree_go_on(lockfree_handle *pass, uint64_t tries);
 
-/* The number of this pass's last call, if that was a put, a take, a fold or a range_put that was
+/* The number of this pass's last call, if that was a put, a take, a fold or a put_range that was
  * OK; else 0. Numbers count the calls of all passes, from 0: a queue's and a ring's puts and takes
  * apart, those of a stack together. So a number tells how far a container is worn: it is spent near
  * number 2^42, and a ring of n slots at number n * laps.
@@ -189,24 +198,12 @@ lockfree_answer lockfree_number(lockfree_handle *pass);
  * OK, VALUE, EMPTY, CLOSED, SHUT, SPENT, BUSY, UNDER_WAY, OTHER_HANDLE, NO_HANDLE. */
 lockfree_answer lockfree_fold(lockfree_handle *pass, bool reversed, uint64_t tries);
 
-/* A range of values for a stack, of which others see all or none: one compare-and-swap puts them.
- * The pass collects them, one after another, which takes memory and no cell; then range_put puts as
- * many as cells can be had, from the first that was added, so that the last one put is on top.
- * `tries` are for each value, and again for all of them together. From the first value to the end
- * of the put the pass makes no other call, and go_on is NO_CALL until the put is BUSY. The end of
- * the put gives back the memory, and the pass has forgotten the values: those that were not put are
- * the last `added - value`.
- * add: OK, NO_MEMORY, UNDER_WAY, OTHER_HANDLE, NO_HANDLE
- * put: OK; FULL, CLOSED, SPENT, EMPTY, and then none was put; BUSY, UNDER_WAY, OTHER_HANDLE,
- * NO_HANDLE */
-uint32_t lockfree_range_add(lockfree_handle *pass, uint64_t value);
-lockfree_answer lockfree_range_put(lockfree_handle *pass, uint64_t tries);
-
-/* The same with the values of an array, in one call and with no memory for them: puts as many as
- * cells can be had, from the first, so that the last one put is on top. value is how many were put.
- * values is not null, and count may be 0. After BUSY it is called again, with the same array, until
- * there is another answer; the pass makes no other call until then, and go_on is NO_CALL, since it
- * has no array.
+/* Puts the values of an array onto a stack, of which others see all or none: one compare-and-swap
+ * puts them. It puts as many as cells can be had, from the first, so that the last one put is on
+ * top. value is how many were put. values is not null, and count may be 0. `tries` are for each
+ * value, and again for all of them together. After BUSY it is called again, with the same array,
+ * until there is another answer; the pass makes no other call until then, and go_on is NO_CALL,
+ * since it has no array.
  * OK; FULL, CLOSED, SPENT, EMPTY (of no values), and then none was put; BUSY, UNDER_WAY,
  * OTHER_HANDLE, NO_HANDLE */
 lockfree_answer lockfree_put_range(lockfree_handle *pass, const uint64_t *values, size_t count,
@@ -241,7 +238,6 @@ static inline lockfree_answer lockfree_heard(lockfree_answer answer)
 #define lockfree_gauge(pass, tries) LOCKFREE_TOLD((lockfree_gauge)(pass, tries))
 #define lockfree_go_on(pass, tries) LOCKFREE_TOLD((lockfree_go_on)(pass, tries))
 #define lockfree_fold(pass, reversed, tries) LOCKFREE_TOLD((lockfree_fold)(pass, reversed, tries))
-#define lockfree_range_put(pass, tries) LOCKFREE_TOLD((lockfree_range_put)(pass, tries))
 #define lockfree_put_range(pass, values, count, tries) \
     LOCKFREE_TOLD((lockfree_put_range)(pass, values, count, tries))
 #define lockfree_finish(root) LOCKFREE_TOLD((lockfree_finish)(root))

@@ -89,6 +89,13 @@ public:
 template <class T> using bounded_queue = queue<T, fixed_sized<true>>;
 template <class T> using bounded_stack = stack<T, fixed_sized<true>>;
 
+/// The passes of the containers, whatever their options: each container's `pass` is one of these.
+/// They may be named, and be members, while T is not complete: so a message can hold the pass by
+/// which it is answered.
+template <class T> using queue_pass = detail::pass_of<T, detail::kind::queue>;
+template <class T> using stack_pass = detail::pass_of<T, detail::kind::stack>;
+template <class T> using ring_pass = detail::pass_of<T, detail::kind::ring>;
+
 /// Makes a container whose capacity is `room`, for programs without exceptions; `most` are limits
 /// as a constructor takes them. Returns null if there is no memory, or no such capacity or limit.
 template <class Container, class... Limits>

@@ -10,7 +10,7 @@ Above each block of these pages stands a comment that says how it is run:
   <!-- prints -->           the block before it prints this
   <!-- in: FILE .. -->      each line stands in one of these files, which run it
 
-What needs c/out/liblockfree.a or the built program is skipped when that is not there."""
+What needs c/out/liblockfree.a, the shared library beside it or the built program is skipped when that is not there."""
 import os
 import re
 import shutil
@@ -21,6 +21,7 @@ PAGES = ('README.md', 'docs/cpp.md', 'docs/c-api.md', 'docs/cli.md', 'docs/lifet
 # Each block of these says how it is run; of the others those that say it are.
 STRICT = ('README.md', 'docs/cpp.md', 'docs/c-api.md', 'docs/lifetime.md')
 ARCHIVE = os.environ.get('LOCKFREE_ARCHIVE', 'c/out/liblockfree.a')
+SHARED = 'c/out/liblockfree.so'
 PROGRAM = 'crates/lockfree_tool/out/lockfree_tool'
 BLOCK = re.compile(r'(?:^<!-- ([a-z]+)(?:: ([^\n]*?))? -->\n)?^```(\w*)\n(.*?)\n?^```', re.S | re.M)
 # What takes long, and what .ci/run runs by itself.
@@ -60,7 +61,7 @@ def commands(code, room):
     """The commands of a block that are run here, and what they need."""
     lines = [line for line in code.splitlines() if line.strip() not in ELSEWHERE]
     script = ('\n'.join(lines) + '\n').replace('/tmp/', f'{room}/')
-    needs = [it for it, word in ((ARCHIVE, 'liblockfree.a'), (ARCHIVE, 'cmake'), (PROGRAM, './lockfree')) if word in script]
+    needs = [it for it, word in ((ARCHIVE, 'liblockfree.a'), (SHARED, 'liblockfree.so'), (ARCHIVE, 'cmake'), (PROGRAM, './lockfree')) if word in script]
     # (the program itself, since the launcher may run it without a proof, which takes a minute)
     return script.replace('c/out/liblockfree.a', ARCHIVE).replace('./lockfree ', f'{PROGRAM} ').replace('./lockfree\n', f'{PROGRAM}\n'), needs
 

@@ -5,38 +5,75 @@ import os
 import re
 import shutil
 
-from commands import C, TOP, read, run, want
+from commands import C, TOP, Failed, read, run, want
 
+SHARED = ("-DBUILD_SHARED_LIBS=ON", "-DLOCKFREE_SHARED=ON")  # each asks CMake for the shared library
 COMMANDS = re.compile(r"^<!-- run -->\n```\n(.*?)\n```", re.S | re.M)  # in a page
 
 
 def user_of_c(folder, prefix):
-    """Programs in C that find the library by pkg-config and by CMake."""
+    """Programs in C that find the archive by pkg-config and by CMake."""
     shutil.copy(f"{C}/examples/ten_lines.c", f"{folder}/main.c")
-    found = run(["pkg-config", "--cflags", "--libs", "lockfree"], folder, {"PKG_CONFIG_PATH": f"{prefix}/lib/pkgconfig"}).split()
+    found = by_pkg_config(folder, prefix, "lockfree")
     want(any(it.startswith(f"-L{prefix}") for it in found), f"{prefix} in {found}")
     run(["gcc", "-o", "user_of_c", "main.c", *found], folder)
     for program in ("./user_of_c", by_cmake(folder, prefix, "C", "main.c")):
-        want(run([program], folder) == "3\n2\n1\n", f"{program} prints what it has to")
+        want(run([program], folder) == "1\n2\n3\n", f"{program} prints what it has to")
+        want(not shared_library_of(program, folder), f"{program} has the archive in it")
 
 
 def user_of_cpp(folder, prefix):
-    """Programs in C++ that find the library by pkg-config, and by CMake with each compiler, which say no standard."""
+    """Programs in C++ that find the archive by pkg-config, and by CMake with each compiler, which say no standard."""
     shutil.copy(f"{C}/examples/ten_lines.cpp", f"{folder}/main.cpp")
-    found = run(["pkg-config", "--cflags", "--libs", "lockfree"], folder, {"PKG_CONFIG_PATH": f"{prefix}/lib/pkgconfig"}).split()
+    found = by_pkg_config(folder, prefix, "lockfree")
     run(["g++", "-std=c++17", "-o", "user_of_cpp", "main.cpp", *found], folder)
     compilers = [it for it in ("g++", "clang++") if shutil.which(it)]
     for program in ("./user_of_cpp", *(by_cmake(folder, prefix, "CXX", "main.cpp", it) for it in compilers)):
         want(run([program], folder) == "499500\n", f"{program} prints what it has to")
+        want(not shared_library_of(program, folder), f"{program} has the archive in it")
 
 
-def by_cmake(folder, prefix, language, source, compiler="gcc"):
+def user_of_shared(folder, prefix):
+    """Programs in C and C++ that find the shared library by pkg-config, by CMake and by hand, and load it when they run."""
+    soname = "liblockfree.so.0.2"
+    by_hand = [f"-I{prefix}/include", f"{prefix}/lib/liblockfree.so", "-pthread"]
+    to_load = f"-Wl,-rpath,{prefix}/lib"
+    for compiler, language, end, prints in (("gcc", "C", "c", "1\n2\n3\n"), ("g++", "CXX", "cpp", "499500\n")):
+        source = f"main.{end}"
+        shutil.copy(f"{C}/examples/ten_lines.{end}", f"{folder}/{source}")
+        run([compiler, "-o", f"by_hand_{end}", source, *by_hand, to_load], folder)
+        run([compiler, "-o", f"found_{end}", source, *by_pkg_config(folder, prefix, "lockfree-shared"), to_load], folder)
+        made = [by_cmake(folder, prefix, language, source, compiler, setting) for setting in SHARED]
+        for program in (f"./by_hand_{end}", f"./found_{end}", *made):
+            want(run([program], folder) == prints, f"{program} prints what it has to")
+            want(shared_library_of(program, folder) == [soname], f"{program} loads {soname}")
+        os.rename(f"{prefix}/lib/{soname}", f"{prefix}/lib/away")
+        try:
+            run([f"./by_hand_{end}"], folder)
+        except Failed as fault:
+            want(soname in str(fault), f"the loader asks for {soname}: {fault}")
+        else:
+            want(False, "no program runs without the library that it loads")
+        finally:
+            os.rename(f"{prefix}/lib/away", f"{prefix}/lib/{soname}")
+
+
+def by_pkg_config(folder, prefix, name):
+    return run(["pkg-config", "--cflags", "--libs", name], folder, {"PKG_CONFIG_PATH": f"{prefix}/lib/pkgconfig"}).split()
+
+
+def shared_library_of(program, folder):
+    """The shared library of lockfree that a program loads, if it does."""
+    return re.findall(r"\(NEEDED\).*\[(.*lockfree.*)\]", run(["readelf", "-dW", program], folder))
+
+
+def by_cmake(folder, prefix, language, source, compiler="gcc", setting="-DBUILD_SHARED_LIBS=OFF"):
     """Builds a program whose project has one language, and finds the library by CMake; returns the program."""
     with open(f"{folder}/CMakeLists.txt", "w", encoding="utf-8") as file:
         file.write(f"cmake_minimum_required(VERSION 3.13)\nproject(user LANGUAGES {language})\n"
                    f"find_package(lockfree 0.2 REQUIRED)\nadd_executable(user {source})\ntarget_link_libraries(user lockfree::lockfree)\n")
-    build = f"build-{compiler}"
-    run(["cmake", "-S", ".", "-B", build, f"-DCMAKE_PREFIX_PATH={prefix}", f"-DCMAKE_{language}_COMPILER={compiler}"], folder)
+    build = f"build-{compiler}{setting}"
+    run(["cmake", "-S", ".", "-B", build, f"-DCMAKE_PREFIX_PATH={prefix}", f"-DCMAKE_{language}_COMPILER={compiler}", setting], folder)
     run(["cmake", "--build", build], folder)
     return f"{build}/user"
 
@@ -70,7 +107,7 @@ def installed(folder):
     """An installation by CMake, which is moved before it is used."""
     install(folder, f"{folder}/first", "-DCMAKE_INSTALL_LIBDIR=lib")
     os.rename(f"{folder}/first", f"{folder}/installed")
-    try_users(folder, f"{folder}/installed", [user_of_c, user_of_cpp])
+    try_users(folder, f"{folder}/installed", [user_of_c, user_of_cpp, user_of_shared])
 
 
 def installed_absolutely(folder):
@@ -81,6 +118,19 @@ def installed_absolutely(folder):
     install(folder, f"{folder}/elsewhere", f"-DCMAKE_INSTALL_LIBDIR={folder}/other/lib", f"-DCMAKE_INSTALL_INCLUDEDIR={folder}/headers")
     os.makedirs(f"{folder}/again")
     try_users(f"{folder}/again", f"{folder}/other", [user_of_c, user_of_cpp])
+
+
+def names_of_the_shared_library(folder):
+    """The shared library gives exactly the functions of lockfree.h that are not inline, each with the library's version."""
+    declared = re.findall(r"(?m)^(?:uint32_t|lockfree_answer) (lockfree_\w+)\(", read("c/lockfree.h"))
+    given = run(["nm", "-D", "--defined-only", "--format=just-symbols", f"{C}/out/liblockfree.so"]).split()
+    want(len(declared) >= 21 and sorted(given) == sorted(["LOCKFREE_0.2", *(f"{it}@@LOCKFREE_0.2" for it in declared)]),
+         f"each of {declared} is given, and nothing else: {given}")
+    wanted = run(["nm", "-D", "--undefined-only", "--format=just-symbols", f"{C}/out/liblockfree.so"]).split()
+    want({it.split("@")[0] for it in wanted} <= {"malloc", "realloc", "free", "memcpy", "memmove", "memset", "memcmp"},
+         f"only the C library's among {wanted}")
+    sections = run(["readelf", "-dlW", f"{C}/out/liblockfree.so"])
+    want("TEXTREL" not in sections and not re.search(r"GNU_STACK.*E", sections), "no code is changed by the loader, no stack is executed")
 
 
 def part_of_a_project(folder):
@@ -95,8 +145,15 @@ def part_of_a_project(folder):
         run(["cmake", "--build", build])
         run(["cmake", "--install", build])
         files = {os.path.relpath(it, prefix) for it in glob.glob(f"{prefix}/**", recursive=True) if os.path.isfile(it)}
-        want({"bin/user", "lib/liblockfree.a", "include/lockfree.h"} <= files if whole else files == {"bin/user"}, f"installed: {files}")
+        library = {"lib/liblockfree.a", "lib/liblockfree.so", "include/lockfree.h"}
+        want({"bin/user", *library} <= files if whole else files == {"bin/user"}, f"installed: {files}")
         want(run([f"{prefix}/bin/user"]) == "499500\n", "the program prints what it has to")
+    for setting in SHARED:
+        build = f"{folder}/build{setting}"
+        run(["cmake", "-S", folder, "-B", build, setting])
+        run(["cmake", "--build", build])
+        want(run([f"{build}/user"]) == "499500\n", "the program prints what it has to")
+        want(shared_library_of(f"{build}/user", folder) == ["liblockfree.so.0.2"], "the program loads the shared library")
 
 
 def try_pages(folder, prefix):
@@ -104,13 +161,13 @@ def try_pages(folder, prefix):
     run([f"{TOP}/tests/docs", "--unpacked", prefix])
     pages = f"{prefix}/share/doc/lockfree"
     blocks = [block for page in ("README.md", "docs/cpp.md") for block in COMMANDS.findall(read(f"{pages}/{page}"))]
-    blocks = [block for block in blocks if "liblockfree.a" in block or "cmake" in block]
-    want(len(blocks) >= 2, f"command lines that need the library: {blocks}")
+    blocks = [block for block in blocks if "liblockfree." in block or "cmake" in block]
+    want(len(blocks) >= 3, f"command lines that need the library: {blocks}")
     for block in blocks:
         run(["bash", "-euo", "pipefail", "-c", block.replace("/tmp/", f"{folder}/")], pages)
     by_hand = ["-I", f"{prefix}/include", f"{pages}/c/examples/ten_lines.c", f"{prefix}/lib/liblockfree.a", "-pthread"]
     run(["gcc", *by_hand, "-o", f"{folder}/by_hand"])
-    want(run([f"{folder}/by_hand"]) == "3\n2\n1\n", "the program that is built by hand prints what it has to")
+    want(run([f"{folder}/by_hand"]) == "1\n2\n3\n", "the program that is built by hand prints what it has to")
 
 
 def packed(folder):
@@ -127,4 +184,4 @@ def packed(folder):
     os.rename(f"{folder}/{os.path.basename(package).removesuffix('.tar.gz')}", prefix)
     run(["sha256sum", "--quiet", "-c", "SHA256SUMS"], prefix)
     try_pages(folder, prefix)
-    try_users(folder, prefix, [user_of_c, user_of_cpp, user_of_rust])
+    try_users(folder, prefix, [user_of_c, user_of_cpp, user_of_shared, user_of_rust])

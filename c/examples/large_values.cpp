@@ -14,8 +14,8 @@ struct frame {
 
 int main() {
     // memory: 4 frames, and two for each thread that calls
-    const auto frames = std::make_unique<lockfree::queue<frame, lockfree::capacity<4>>>();
-    lockfree::queue<std::unique_ptr<frame>, lockfree::capacity<4>> shown;   // only pointers
+    const auto frames = std::make_unique<lockfree::ring_queue<frame, lockfree::capacity<4>>>();
+    lockfree::ring_queue<std::unique_ptr<frame>, lockfree::capacity<4>> shown;   // only pointers
     std::thread camera([&] {
         const auto next = std::make_unique<frame>();
         for (next->number = 1; next->number <= 100; ++next->number)

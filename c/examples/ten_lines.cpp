@@ -2,14 +2,14 @@
 #include <cstdio>
 #include <thread>
 int main() {
-    lockfree::queue<int, lockfree::capacity<64>> queue;      // allocates memory for all values
+    lockfree::ring_queue<int, lockfree::capacity<64>> queue;   // allocates everything here
     std::thread producer([&] {
         for (int i = 0; i < 1000; ++i)
             if (queue.push_wait(i) != lockfree::status::ok) return;   // waits while it is full
-        queue.close();                                       // no more values will come
+        queue.close();                                         // no more values will come
     });
     int value, sum = 0;
     while (queue.pop_wait(value) == lockfree::status::ok) sum += value;   // until closed and empty
     producer.join();
-    std::printf("%d\n", sum);                                // 499500
+    std::printf("%d\n", sum);                                  // 499500
 }

@@ -12,19 +12,25 @@
 #include <memory>
 #include <new>
 #include <type_traits>
+#include <utility>
 
 namespace lockfree {
 inline namespace LOCKFREE_NAMES {
 namespace detail {
 
-/// Whether a range can be read twice. The iterators of C++20's views say so by another name than
-/// older ones.
-template <class It, class = void> inline constexpr bool reads_twice =
+/// Whether a range can be read twice. C++20's views say so by their concept, and have a lower
+/// category, or none. Move iterators say so by their category, and have a lower concept in C++20.
+template <class It, class = void> inline constexpr bool has_forward_category = false;
+template <class It> inline constexpr bool has_forward_category<
+    It, std::void_t<typename std::iterator_traits<It>::iterator_category>> =
     std::is_base_of_v<std::forward_iterator_tag,
                       typename std::iterator_traits<It>::iterator_category>;
+template <class It, class = void> inline constexpr bool has_forward_concept = false;
 template <class It>
-inline constexpr bool reads_twice<It, std::void_t<typename It::iterator_concept>> =
+inline constexpr bool has_forward_concept<It, std::void_t<typename It::iterator_concept>> =
     std::is_base_of_v<std::forward_iterator_tag, typename It::iterator_concept>;
+template <class It> inline constexpr bool reads_twice =
+    has_forward_category<It> || has_forward_concept<It>;
 
 /// The words of a range: of up to 64 with no memory for them. Those that are not put end here, or
 /// go back to the range, if it gave them by rvalue.
@@ -109,8 +115,9 @@ private:
 };
 
 /// Puts a range at once, and tells how many of it. `ok` if all of them.
-template <class T, class It>
-status put_range(core &of, seat &by, It begin, It end, std::size_t &put) {
+template <class T, class It, class End>
+status put_range(core &of, seat &by, It begin, End end, std::size_t &put) {
+    const in_use<T> user(of, by);
     std::size_t most = 0;
     It rest = begin;
     for (; rest != end && most < of.room; (void)++rest) ++most;
@@ -124,57 +131,112 @@ status put_range(core &of, seat &by, It begin, It end, std::size_t &put) {
     return put < most ? status::no_memory : rest == end ? status::ok : status::full;
 }
 
+/// The ends of a range, also of one whose end is of another type, by std::begin or by its own.
+template <class R> constexpr auto begin_of(R &range) {
+    using std::begin;
+    return begin(range);
+}
+template <class R> constexpr auto end_of(R &range) {
+    using std::end;
+    return end(range);
+}
+
 /// The calls of all containers with many values.
 template <class Me, class T, kind K> class bulk {
 public:
-    /// Puts the values of a range from its front, as many as there is room for. The first that was
-    /// not put. Values that the range gives by rvalue and that are not put are moved back into it.
+    /// Pushes the values of a range from its front, as many as there is room for. Returns the first
+    /// that was not pushed. Values that the range gives by rvalue and that are not pushed are moved
+    /// back into it.
     ///
-    /// A stack takes them all at once: others see all of them or none, and the last one is on top.
-    /// That takes memory for more than 64 values; large ranges of several threads at a time may
-    /// take memory for cells. A range that can be read only once, and each range of a queue or a
+    /// A stack takes them all at once: other threads see all of them or none, and the last one is
+    /// on top. That takes memory for more than 64 values; large ranges of several threads at a time
+    /// may take memory for cells. A range that can be read only once, and each range of a queue or a
     /// ring, goes in one value after another, so that others may see a part.
     template <class It> It push(It begin, It end) {
-        auto [next, what] = try_push(begin, end);
-        if (next == begin) throw_if_not_made(what);
-        return next;
+        std::size_t count = 0;
+        const auto result = push_until(begin, end, count);
+        if (count == 0) throw_if_not_made(result.what);
+        return result.next;
     }
     template <class It> It bounded_push(It begin, It end) { return push(begin, end); }
-    /// The same, with the reason if not all were put: full, closed, spent, no_memory, no_pass.
+    /// The same, with the reason if not all were pushed: full, closed, spent, no_memory, no_pass.
     template <class It> put_range_result<It> try_push(It begin, It end) {
-        if constexpr (K == kind::stack && reads_twice<It>) {
-            std::size_t put = 0;
-            const status what = static_cast<Me &>(*this).with(
-                [&](core &of, seat &by) { return detail::put_range<T>(of, by, begin, end, put); });
-            return {std::next(begin,
-                              static_cast<typename std::iterator_traits<It>::difference_type>(put)),
-                    what};
-        } else {
-            status what = status::ok;
-            while (begin != end &&
-                   (what = static_cast<Me &>(*this).try_emplace(*begin)) == status::ok)
-                (void)++begin;
-            return {begin, what};
-        }
+        std::size_t count = 0;
+        return push_until(begin, end, count);
+    }
+    /// The same of a range as a whole, such as a container or a view of C++20, also if its end is a
+    /// sentinel of another type. The iterator that it returns is one of `range`.
+    template <class R> auto push_range(R &&range) {
+        std::size_t count = 0;
+        auto result = push_until(detail::begin_of(range), detail::end_of(range), count);
+        if (count == 0) throw_if_not_made(result.what);
+        return std::move(result.next);
+    }
+    template <class R> auto try_push_range(R &&range) {
+        std::size_t count = 0;
+        return push_until(detail::begin_of(range), detail::end_of(range), count);
     }
 
     /// Takes up to `most` values, one after another, and assigns them to `to`, to the next place of
-    /// it, and so on. How many.
+    /// it, and so on. Returns how many it took.
     template <class Out> std::size_t pop(Out to, std::size_t most) {
         const batch taken = try_pop(to, most);
         if (taken.count == 0) throw_if_not_made(taken.what);
         return taken.count;
     }
     /// The same, with the reason if there were fewer: empty, closed, shut, spent, no_memory,
-    /// no_pass.
+    /// no_pass; `stopped` if a function of T has destroyed the container or pass.
     template <class Out> batch try_pop(Out to, std::size_t most) {
-        batch taken{0, status::ok};
-        for (; taken.count < most; (void)++to, ++taken.count) {
-            taken.what =
-                static_cast<Me &>(*this).try_consume_one([&](T &value) { *to = std::move(value); });
-            if (taken.what != status::ok) break;
+        return me().take_up_to(most, assigns_to(to));
+    }
+    /// Waits for a first value as pop_wait(to, stop) does, and then takes up to `most` values
+    /// without waiting. Returns how many it took, and why not more: `empty` if no more were there,
+    /// and if it took none `stopped`, closed, shut, spent, no_memory or no_pass.
+    template <class Out, class Stop = const never_stops>
+    batch pop_wait(Out to, std::size_t most, Stop &&stop = never_stops()) {
+        auto again = detail::waits_for(detail::asks(stop));
+        return take_waiting(to, most, again);
+    }
+
+private:
+    friend struct waits_of;
+    Me &me() noexcept { return static_cast<Me &>(*this); }
+    template <class Out> static auto assigns_to(Out &to) {
+        return [&to](T &value) {
+            *to = std::move(value);
+            (void)++to;
+        };
+    }
+
+    /// `count` is how many were pushed.
+    template <class It, class End>
+    put_range_result<It> push_until(It begin, End end, std::size_t &count) {
+        status what = status::ok;
+        if constexpr (K == kind::stack && reads_twice<It>) {
+            what = me().with([&](core &of, seat &by) {
+                return detail::put_range<T>(of, by, begin, end, count);
+            });
+            for (std::size_t i = 0; i < count; ++i) (void)++begin;
+        } else {
+            for (; begin != end; (void)++begin, (void)++count)
+                if ((what = me().try_emplace(*begin)) != status::ok) break;
         }
-        return taken;
+        return {std::move(begin), what};
+    }
+
+    template <class Out, class Again> batch take_waiting(Out &to, std::size_t most, Again &again) {
+        if (most == 0) return {0, status::ok};
+        auto use = assigns_to(to);
+        batch taken{0, status::ok};
+        const status what = me().with([&](core &of, seat &by) {
+            const in_use<T> user(of, by);
+            const status first = detail::take_waiting<T, K>(of, by, again, use);
+            if (first != status::ok) return first;
+            taken = detail::take_many<T, K>(of, by, most - 1, use);
+            ++taken.count;
+            return status::ok;
+        });
+        return what == status::ok ? taken : batch{0, what};
     }
 };
 

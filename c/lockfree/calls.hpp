@@ -18,9 +18,17 @@ namespace detail {
 /// Whether a T goes into a U, by assignment or by making one of it: as Boost's pop.
 template <class T, class U> inline constexpr bool goes_into =
     std::is_assignable_v<U &, T &&> || std::is_constructible_v<U, T &&>;
+template <class T, class U> inline constexpr bool goes_into_without_throwing =
+    std::is_assignable_v<U &, T &&>
+        ? std::is_nothrow_assignable_v<U &, T &&>
+        : std::is_nothrow_constructible_v<U, T &&> && std::is_nothrow_move_assignable_v<U>;
 template <class T, class U> void assign(T &from, U &to) {
     if constexpr (std::is_assignable_v<U &, T &&>) to = std::move(from);
-    else to = U(std::move(from));
+    else {
+        static_assert(std::is_constructible_v<U, T &&>,
+                      "lockfree: a value of this container cannot be made into that");
+        to = static_cast<U>(std::move(from));
+    }
 }
 
 /// To a function that takes an rvalue or a value by move; else by reference.
@@ -30,9 +38,20 @@ template <class T, class F> void hand_over(F &use, T &value) {
     else static_cast<void>(std::invoke(use, value));
 }
 
+/// Whether a push by move throws nothing, also if it is refused. (The value that is its own word is
+/// copied as bytes.)
+template <class T> inline constexpr bool moves_without_throwing =
+    goes_by_value<T> || (std::is_nothrow_move_constructible_v<T> && moves_back<T>);
+/// Whether a function that gets a value throws nothing.
+template <class T, class F> inline constexpr bool uses_without_throwing =
+    std::is_invocable_v<F &, T &&> ? std::is_nothrow_invocable_v<F &, T &&>
+                                   : std::is_nothrow_invocable_v<F &, T &>;
+
 /// Whether these are one rvalue of T, which is moved back if it is refused.
 template <class T, class... Args> inline constexpr bool is_one_rvalue = false;
 template <class T, class Arg> inline constexpr bool is_one_rvalue<T, Arg> = std::is_same_v<Arg, T>;
+
+struct waits_of;
 
 /// The calls that all containers and their passes have, beside those of gauges.hpp and bulk.hpp.
 /// Any number of threads may call a container at a time, and one thread a pass. A thread's first
@@ -70,7 +89,9 @@ public:
 
     /// Moves the next value into `to`, by assignment, or by making a U of it. False if it is empty,
     /// shut or spent. The value is lost if its move throws.
-    template <class U> bool pop(U &to) { return said(try_pop(to)); }
+    template <class U, class = std::enable_if_t<goes_into<T, U>>> bool pop(U &to) {
+        return said(try_pop(to));
+    }
     [[nodiscard]] std::optional<T> pop(uses_optional_t) {
         std::optional<T> to;
         said(pop_into(to));
@@ -78,20 +99,27 @@ public:
     }
     [[nodiscard]] std::optional<T> pop() { return pop(uses_optional); }
 
-    /// The same calls, which say why not: full, closed, spent; empty, closed, shut, spent;
-    /// no_memory, no_pass.
-    status try_push(const T &value) { return make(tries_once, value); }
-    status try_push(T &&value) { return move(tries_once, value); }
+    /// The same calls, which return why not: full, closed, spent; empty, closed, shut, spent;
+    /// no_memory, no_pass. They are noexcept if the functions of T (and of `to`) that they call are.
+    status try_push(const T &value) noexcept(std::is_nothrow_copy_constructible_v<T>) {
+        return make(tries_once, value);
+    }
+    status try_push(T &&value) noexcept(moves_without_throwing<T>) {
+        return move(tries_once, value);
+    }
     template <class D, class = std::enable_if_t<is_unreturnable<T, D>>>
     status try_push(D &&value) = delete;
-    template <class... Args> status try_emplace(Args &&...args) {
+    template <class... Args> status try_emplace(Args &&...args) noexcept(
+        is_one_rvalue<T, Args...> ? moves_without_throwing<T>
+                                  : std::is_nothrow_constructible_v<T, Args...>) {
         return put(tries_once, std::forward<Args>(args)...);
     }
-    template <class U> status try_pop(U &to) {
+    template <class U, class = std::enable_if_t<goes_into<T, U>>>
+    status try_pop(U &to) noexcept(goes_into_without_throwing<T, U>) {
         return take([&](T &value) { detail::assign(value, to); });
     }
     /// Nothing for any of these reasons.
-    [[nodiscard]] std::optional<T> try_pop() {
+    [[nodiscard]] std::optional<T> try_pop() noexcept(std::is_nothrow_move_constructible_v<T>) {
         std::optional<T> to;
         static_cast<void>(pop_into(to));
         return to;
@@ -122,14 +150,12 @@ public:
         auto again = detail::waits_for(detail::asks(stop));
         return put(again, std::forward<Args>(args)...);
     }
-    template <class U, class Stop = const never_stops, class = std::enable_if_t<goes_into<T, U>>>
+    template <
+        class U, class Stop = const never_stops,
+        class = std::enable_if_t<goes_into<T, U> && !std::is_integral_v<std::decay_t<Stop>>>>
     status pop_wait(U &to, Stop &&stop = never_stops()) {
         auto again = detail::waits_for(detail::asks(stop));
-        for (;;) {
-            const status what = try_pop(to);
-            if (what != status::empty) return what;
-            if (!again()) return status::stopped;
-        }
+        return take_wait(again, [&](T &value) { detail::assign(value, to); });
     }
     /// The next value, or nothing if the container ends, the stop says so, or the thread's first
     /// call finds no memory or no pass. Use pop_wait(to) to tell these apart.
@@ -137,45 +163,84 @@ public:
     template <class Stop> [[nodiscard]] std::optional<T> pop_wait_until(Stop &&stop) {
         auto again = detail::waits_for(detail::asks(stop));
         std::optional<T> to;
-        while (pop_into(to) == status::empty && again()) {}
+        static_cast<void>(take_wait(again, [&](T &value) { to.emplace(std::move(value)); }));
         return to;
     }
 
-    /// Takes the next value and hands it to `use`, as T&& if it takes that, else as T&. False if
-    /// there was none. The value ends when `use` returns or throws. `use` may call the container.
+    /// Takes the next value and hands it to `use`, as T&& if `use` takes that, else as T&. Returns
+    /// false if there was none. The value is destroyed when `use` returns or throws. `use` may call
+    /// the container or pass, and it may move or destroy it: then what it had goes back when this
+    /// call returns. So may the destructor of a T, here and in all calls.
     template <class F> bool consume_one(F &&use) { return said(try_consume_one(use)); }
-    template <class F> status try_consume_one(F &&use) {
+    template <class F>
+    status try_consume_one(F &&use) noexcept(uses_without_throwing<T, F>) {
         return take([&](T &value) { detail::hand_over(use, value); });
     }
-    /// Until there is none; how many.
+    /// Takes values until there is none, and returns how many there were. It ends early if `use`
+    /// destroys the container or pass, or makes the thread leave the container.
     template <class F> std::size_t consume_all(F &&use) {
         const batch taken = try_consume_all(use);
         throw_if_not_made(taken.what);
         return taken.count;
     }
-    /// The same, with what it was that ended it: empty, closed, shut, spent, no_memory, no_pass.
-    template <class F> batch try_consume_all(F &&use) {
+    /// The same, with what ended it: empty, closed, shut, spent, no_memory, no_pass; `stopped` if
+    /// `use` did.
+    template <class F>
+    batch try_consume_all(F &&use) noexcept(uses_without_throwing<T, F>) {
+        return take_up_to(SIZE_MAX, [&](T &value) { detail::hand_over(use, value); });
+    }
+
+protected:
+    /// Takes up to `most` values by one pass.
+    template <class F> batch take_up_to(std::size_t most, F &&use) {
         batch taken{0, status::ok};
-        while ((taken.what = try_consume_one(use)) == status::ok) ++taken.count;
-        return taken;
+        const status what = me().with([&](core &of, seat &by) {
+            taken = detail::take_many<T, K>(of, by, most, use);
+            return status::ok;
+        });
+        return what == status::ok ? taken : batch{0, what};
+    }
+    /// Takes a value, and tries again as long as `again()` returns true.
+    template <class Again, class F> status take_wait(Again &again, F &&use) {
+        return me().with([&](core &of, seat &by) {
+            return detail::take_waiting<T, K>(of, by, again, use);
+        });
     }
 
 private:
+    friend struct waits_of;
     static bool said(status what) {
+        if (__builtin_expect(what == status::ok, 1)) return true;
         throw_if_not_made(what);
-        return what == status::ok;
+        return false;
     }
     Me &me() noexcept { return static_cast<Me &>(*this); }
 
-    template <class Again, class... Args> status make(Again &again, Args &&...args) {
-        return heard(again, me().with([&](core &of, seat &by) {
-            return told(by, detail::put_made<T>(of, by, again, std::forward<Args>(args)...));
+    /// A value that is its own word needs no cell, so its push is one call of the library. The word
+    /// is made before the seat is looked for, so that it stays in a register.
+    template <class Again> [[gnu::always_inline]] status put_one(Again &again, std::uint64_t word) {
+        return heard(again, me().with([&again, word](core &of, seat &by) {
+            return told(by, detail::put_word<T>(of, by, word, again));
         }));
     }
+    template <class Again, class... Args> status make(Again &again, Args &&...args) {
+        if constexpr (goes_by_value<T>) {
+            const T value(std::forward<Args>(args)...);
+            return put_one(again, detail::word_of_value(value));
+        } else {
+            return heard(again, me().with([&](core &of, seat &by) {
+                return told(by, detail::put_made<T>(of, by, again, std::forward<Args>(args)...));
+            }));
+        }
+    }
     template <class Again> status move(Again &again, T &value) {
-        return heard(again, me().with([&](core &of, seat &by) {
-            return told(by, detail::put_moved<T>(of, by, again, value));
-        }));
+        if constexpr (goes_by_value<T>) {
+            return put_one(again, detail::word_of_value(value));
+        } else {
+            return heard(again, me().with([&](core &of, seat &by) {
+                return told(by, detail::put_moved<T>(of, by, again, value));
+            }));
+        }
     }
     template <class Again, class... Args> status put(Again &again, Args &&...args) {
         if constexpr (is_one_rvalue<T, Args...>) return move(again, args...);
@@ -187,8 +252,7 @@ private:
     }
     /// A call that waits is full only because it was stopped.
     template <class Again> static status heard(Again &, status what) noexcept {
-        constexpr bool waits = !std::is_same_v<Again, decltype(tries_once)>;
-        return waits && what == status::full ? status::stopped : what;
+        return waits<Again> && what == status::full ? status::stopped : what;
     }
     template <class F> status take(F &&use) {
         return me().with([&](core &of, seat &by) { return detail::take_value<T, K>(of, by, use); });

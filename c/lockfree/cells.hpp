@@ -37,6 +37,7 @@ namespace detail {
 
 /// Whether a T is itself the word that goes through the library.
 template <class T> inline constexpr bool goes_by_value = std::is_trivially_copyable_v<T> &&
+                                                         std::is_move_constructible_v<T> &&
                                                          sizeof(T) <= sizeof(std::uint64_t);
 
 /// A free cell. The first one of a chain also has the next chain, if chains are listed.

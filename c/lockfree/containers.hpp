@@ -14,6 +14,9 @@
 
 namespace lockfree {
 inline namespace LOCKFREE_NAMES {
+
+template <class Container> class blocking;
+
 namespace detail {
 
 /// All calls of a container and of its passes.
@@ -22,11 +25,13 @@ class most_calls : public calls<Me, T, K>, public gauges<Me, K>, public bulk<Me,
 public:
     using bulk<Me, T, K>::bounded_push;
     using bulk<Me, T, K>::pop;
+    using bulk<Me, T, K>::pop_wait;
     using bulk<Me, T, K>::push;
     using bulk<Me, T, K>::try_pop;
     using bulk<Me, T, K>::try_push;
     using calls<Me, T, K>::bounded_push;
     using calls<Me, T, K>::pop;
+    using calls<Me, T, K>::pop_wait;
     using calls<Me, T, K>::push;
     using calls<Me, T, K>::try_pop;
     using calls<Me, T, K>::try_push;
@@ -52,9 +57,7 @@ public:
         return *this;
     }
     ~pass_of() {
-        if (!of) return;
-        if (by) of->give_back(by);
-        drop_user<T>(*of);
+        if (of) detail::leave<T>(*of, by);
     }
     void swap(pass_of &other) noexcept {
         std::swap(of, other.of);
@@ -70,26 +73,15 @@ private:
     template <class, kind> friend class gauges;
     template <class, class> friend class folds;
     core *of = nullptr;
-    seat *by = nullptr;  // null also if a fold has it
+    seat *by = nullptr;  // null if `of` is
 
     /// A seat of the core, and a share in it.
     pass_of(core &from, seat &with) noexcept : of(&from), by(&with) { from.add_user(); }
 
     core *shared() const noexcept { return of; }
-    std::uint32_t ready() noexcept {
-        if (!of) return LOCKFREE_NO_PASS;
-        return by ? std::uint32_t{LOCKFREE_OK} : of->take_seat(by);
-    }
-
-    template <class F> status with(F &&call) {
-        const std::uint32_t code = ready();
-        return code == LOCKFREE_OK ? call(*of, *by) : status_of(code);
-    }
-    template <class F> status with_lent(F &&call) {
-        const std::uint32_t code = ready();
-        if (code != LOCKFREE_OK) return status_of(code);
-        const lent out(*of, [this] { return &by; });
-        return call(*of, *out.by);
+    /// Once the call is made nothing here is looked at: it may have ended or moved this pass.
+    template <class F> [[gnu::always_inline]] status with(F &&call) {
+        return __builtin_expect(by != nullptr, 1) ? call(*of, *by) : status::no_pass;
     }
 };
 
@@ -162,9 +154,26 @@ public:
     /// pushed them; if passes are out and it is shut, or is a spent stack, with the last of these.
     ~container() {
         if (!of->has_one_user()) end_left<T>(*of);
-        if (state_of_thread == thread_state::calls) mine().forget(*of);
-        drop_user<T>(*of);
+        seat &kept = of->kept_seat();
+        if (kept.uses != 0) {  // (the function of a `finish` ends it: which has a share then, too)
+            of->add_user();
+            kept.is_left = true;
+        }
+        detail::leave<T>(*of, taken_seat(*of));
     }
+
+    /// What the passes say, too. A container may be asked by several threads at a time, so these
+    /// calls are const; a pass makes one call at a time, so that there they are not.
+    bool empty() const { return asked().base::empty(); }
+    std::size_t size() const { return asked().base::size(); }
+    bool full() const { return asked().base::full(); }
+    bool is_closed() const { return asked().base::is_closed(); }
+    double wear() const { return asked().base::wear(); }
+    status try_empty(bool &to) const noexcept { return asked().base::try_empty(to); }
+    status try_size(std::size_t &to) const noexcept { return asked().base::try_size(to); }
+    status try_full(bool &to) const noexcept { return asked().base::try_full(to); }
+    status try_is_closed(bool &to) const noexcept { return asked().base::try_is_closed(to); }
+    status try_wear(double &to) const noexcept { return asked().base::try_wear(to); }
 
     /// A pass that a thread keeps itself, which spares each call the look for it. Made under a
     /// lock; takes memory if more are out than ever before. At most 65,534 are out at a time, with
@@ -188,10 +197,23 @@ public:
     /// stay, for `finish` again.
     template <class F> status finish(F &&use) {
         if (!of->has_one_user()) return status::shared;
-        of->finish([&](seat &by, std::uint64_t word) {
-            detail::use_word<T>(*of, by, word, [&](T &value) { detail::hand_over(use, value); });
+        core &from = *of;
+        const in_use<T> user(from, from.kept_seat());
+        from.finish([&](seat &by, std::uint64_t word) {
+            detail::use_word<T>(from, by, word, [&](T &value) { detail::hand_over(use, value); });
         });
         return status::ok;
+    }
+
+    /// Gives back this thread's pass now, instead of at the end of the thread. The next call of the
+    /// thread gets one as its first call did: so a pool's thread leaves a ring's pass to others. If
+    /// the thread has none, nothing changes. In the function of a call by that pass it goes back
+    /// when the call returns.
+    void leave() noexcept {
+        seat *const by = taken_seat(*of);
+        if (!by) return;
+        of->add_user();
+        detail::leave<T>(*of, by);
     }
 
     /// For a thread that calls alone, as Boost's: the same calls here.
@@ -221,8 +243,11 @@ private:
     template <class, class> friend class folds;
     template <class Container, class... Room>
     friend std::unique_ptr<Container> make(Room... room) noexcept;
+    template <class> friend class lockfree::blocking;
     core *const of;
     const std::size_t home;
+
+    bool is_made() const noexcept { return true; }
 
     static std::uint32_t make_core(core *&to, size_type room, limits most) noexcept {
         return core::make(room, layout_of<T>(), most, to);
@@ -237,22 +262,17 @@ private:
     }
 
     core *shared() const noexcept { return of; }
+    container &asked() const noexcept { return const_cast<container &>(*this); }
 
     /// By the seat that the thread has at hand, mostly.
-    template <class F> status with(F &&call) {
+    template <class F> [[gnu::always_inline]] status with(F call) {
         const slot *const known = table_of_thread.find(of, home);
         if (__builtin_expect(known && known->by, 1)) return call(*of, *known->by);
         return with_caller(call);
     }
-    template <class F> [[gnu::cold, gnu::noinline]] status with_caller(F &call) {
+    template <class F> [[gnu::cold, gnu::noinline]] status with_caller(F call) {
         const caller me(*of);
         return me.code == LOCKFREE_OK ? call(*of, *me.by) : status_of(me.code);
-    }
-    template <class F> status with_lent(F &&call) {
-        caller me(*of);
-        if (me.code != LOCKFREE_OK) return status_of(me.code);
-        const lent out(*of, [&me] { return me.place(); });
-        return call(*of, *out.by);
     }
 };
 
@@ -262,6 +282,7 @@ template <class Container, class... Room> std::unique_ptr<Container> make(Room..
     if (Container::make_core(of, room...) != LOCKFREE_OK) return nullptr;
     std::unique_ptr<Container> made(new (std::nothrow) Container(adopted{of}));
     if (!made) drop_user<typename Container::value_type>(*of);
+    else if (!made->is_made()) made.reset();
     return made;
 }
 

@@ -29,14 +29,16 @@ struct alignas(64) seat {
     std::atomic<std::ptrdiff_t> held{0};
     /// For the words of a fold, once it has had one of many values.
     std::unique_ptr<std::uint64_t[]> words;
+    /// How many of its calls are in a function of a user now: a call in such a function may go by
+    /// the same seat. Whether the pass or container that had the seat has ended meanwhile: then
+    /// the last of these calls gives back the seat and the share. Only the thread that calls reads
+    /// or writes these two, and calls with words do so only if they run a function.
+    std::uint32_t uses = 0;
+    bool is_left = false;
 
     template <kind K> void tally([[maybe_unused]] std::ptrdiff_t change) noexcept {
         if constexpr (K == kind::stack)
             held.store(held.load(std::memory_order_relaxed) + change, std::memory_order_relaxed);
-    }
-    std::uint64_t *words_for(std::size_t room) noexcept {
-        if (!words) words.reset(new (std::nothrow) std::uint64_t[room]);
-        return words.get();
     }
 };
 
@@ -66,6 +68,9 @@ public:
     }
     core(const core &) = delete;
     core &operator=(const core &) = delete;
+
+    /// The seat that no caller gets: what is left goes through it when the container ends.
+    seat &kept_seat() noexcept { return *kept; }
 
     const std::size_t room;
     const std::uint64_t life;  // the limit of tags, or of laps

@@ -38,8 +38,8 @@ public:
     }
 
     /// Whether it was empty at some time in the call.
-    bool empty() const { return answered<bool>(&gauges::try_empty); }
-    status try_empty(bool &to) const noexcept {
+    bool empty() { return answered<bool>(&gauges::try_empty); }
+    status try_empty(bool &to) noexcept {
         const status what = ask([](handle &pass) { return (lockfree_look)(&pass, UINT64_MAX); });
         return answer(what, to, what != status::ok);
     }
@@ -47,8 +47,8 @@ public:
     /// begins anew while others pop. How many a stack holds, exactly if nobody calls meanwhile:
     /// else calls that are under way may count or not. It looks at each pass that was ever out at a
     /// time.
-    std::size_t size() const { return answered<std::size_t>(&gauges::try_size); }
-    status try_size(std::size_t &to) const noexcept {
+    std::size_t size() { return answered<std::size_t>(&gauges::try_size); }
+    status try_size(std::size_t &to) noexcept {
         if constexpr (K == kind::stack) {
             const core *const of = me().shared();
             return answer(of ? status::ok : status::no_pass, to, of ? of->held() : 0);
@@ -56,20 +56,21 @@ public:
             std::uint64_t count = 0;
             const status what =
                 tell(count, [](handle &pass) { return (lockfree_count)(&pass, UINT64_MAX); });
-            return answer(what, to, static_cast<std::size_t>(count));
+            const std::size_t held = count;
+            return answer(what, to, held);
         }
     }
     /// Whether it held as many values as fit, by the same count. A push may be refused before: a
     /// queue or a stack is full to it while other calls have the last places in hand.
-    bool full() const { return answered<bool>(&gauges::try_full); }
-    status try_full(bool &to) const noexcept {
+    bool full() { return answered<bool>(&gauges::try_full); }
+    status try_full(bool &to) noexcept {
         std::size_t count = 0;
         const status what = try_size(count);
         return answer(what, to, count >= capacity());
     }
     /// Whether it was closed at one moment of the call.
-    bool is_closed() const { return answered<bool>(&gauges::try_is_closed); }
-    status try_is_closed(bool &to) const noexcept {
+    bool is_closed() { return answered<bool>(&gauges::try_is_closed); }
+    status try_is_closed(bool &to) noexcept {
         const core *const of = me().shared();
         if (of && of->closed.load(std::memory_order_acquire)) return answer(status::ok, to, true);
         std::uint64_t used = 0;
@@ -84,9 +85,12 @@ public:
     /// True: no push and no pop waits for another thread, except for a lock in these cases:
     /// - a thread calls for the first time,
     /// - values lie in cells, and more than 64 threads have called a queue or a stack,
+    /// - values of a ring have 1 KiB or more, and its capacity and three times its passes are
+    ///   together more than 1,048,572,
     /// - a push makes a cell,
-    /// - the call is made in the function of a consume_all_atomic or in a destructor of a
-    ///   thread_local object.
+    /// - the call is made in the function of a consume_all_atomic that found no memory for the
+    ///   values,
+    /// - the call is made in a destructor of a thread_local object.
     bool is_lock_free() const noexcept { return true; }
     static constexpr bool is_always_lock_free = true;
 
@@ -94,8 +98,8 @@ public:
     /// queue takes up to 2^42 - 1 values in its life, a stack makes 2^42 - 1 pushes and pops, a
     /// ring takes 2^41 - 1 times its capacity. Then it is spent: no push succeeds, and no pop of a
     /// stack. 1 after `finish`.
-    double wear() const { return answered<double>(&gauges::try_wear); }
-    status try_wear(double &to) const noexcept {
+    double wear() { return answered<double>(&gauges::try_wear); }
+    status try_wear(double &to) noexcept {
         const core *const of = me().shared();
         if (of && of->spent.load(std::memory_order_acquire)) return answer(status::ok, to, 1.0);
         std::uint64_t used = 0;
@@ -116,7 +120,7 @@ private:
         to = found;
         return status::ok;
     }
-    template <class Answer> Answer answered(status (gauges::*call)(Answer &) const noexcept) const {
+    template <class Answer> Answer answered(status (gauges::*call)(Answer &) noexcept) {
         Answer found{};
         throw_if_not_made((this->*call)(found));
         return found;
@@ -124,19 +128,19 @@ private:
 
     /// Asks, and tells the number that is answered.
     template <class Question>
-    status tell(std::uint64_t &number, Question &&question) const noexcept {
-        return const_cast<gauges *>(this)->me().with([&](core &of, seat &by) {
+    status tell(std::uint64_t &number, Question &&question) noexcept {
+        return me().with([&](core &of, seat &by) {
             const lockfree_answer answer = detail::whole(by.pass, question(by.pass));
             number = answer.value;
             return detail::refused(of, answer.code);
         });
     }
-    template <class Question> status ask(Question &&question) const noexcept {
+    template <class Question> status ask(Question &&question) noexcept {
         std::uint64_t number = 0;
         return tell(number, question);
     }
     /// How many tags are used, in a ring how many values were put, and ok or closed.
-    status gauge(std::uint64_t &used) const noexcept {
+    status gauge(std::uint64_t &used) noexcept {
         return tell(used, [](handle &pass) { return (lockfree_gauge)(&pass, UINT64_MAX); });
     }
     static double part(std::uint64_t used, const core &of) noexcept {

@@ -7,6 +7,7 @@
 
 #include <cstddef>
 #include <cstdint>
+#include <utility>
 
 #if defined(__SANITIZE_THREAD__)
 #define LOCKFREE_UNDER_TSAN 1
@@ -67,15 +68,22 @@ struct handle : lockfree_handle {
     ~handle() { free(); }
     void free() noexcept { lockfree_free(this); }
     bool is_empty() const noexcept { return !at; }
+    void swap(handle &other) noexcept {
+        std::swap(static_cast<lockfree_handle &>(*this), static_cast<lockfree_handle &>(other));
+    }
 };
 
 /// Goes on with a call until it has another answer than BUSY. The names in parentheses go around
 /// lockfree.h's own messages to ThreadSanitizer, which order all containers with one another.
+[[gnu::cold, gnu::noinline]] inline lockfree_answer go_on(handle &pass) noexcept {
+    lockfree_answer answer;
+    do answer = detail::defined((lockfree_go_on)(&pass, UINT64_MAX));
+    while (answer.code == LOCKFREE_BUSY);
+    return answer;
+}
 inline lockfree_answer whole(handle &pass, lockfree_answer answer) noexcept {
     answer = detail::defined(answer);
-    while (__builtin_expect(answer.code == LOCKFREE_BUSY, 0))
-        answer = detail::defined((lockfree_go_on)(&pass, UINT64_MAX));
-    return answer;
+    return __builtin_expect(answer.code == LOCKFREE_BUSY, 0) ? detail::go_on(pass) : answer;
 }
 inline lockfree_answer put(handle &pass, std::uint64_t word) noexcept {
     return whole(pass, (lockfree_put)(&pass, word, UINT64_MAX));
@@ -88,7 +96,8 @@ inline std::uint64_t word_of(const void *place) noexcept {
     return reinterpret_cast<std::uintptr_t>(place);
 }
 template <class Place> Place *place_of(std::uint64_t word) noexcept {
-    return reinterpret_cast<Place *>(static_cast<std::uintptr_t>(word));
+    const std::uintptr_t place = word;
+    return reinterpret_cast<Place *>(place);
 }
 
 }  // namespace detail

@@ -25,7 +25,8 @@ enum class [[nodiscard]] status : std::uint32_t{
     no_pass =
         LOCKFREE_NO_PASS,  ///< As many passes are out as there may be; or the pass is an empty one.
     shared = LOCKFREE_SHARED,  ///< finish: a pass of `split()` is still out.
-    stopped = 100              ///< A waiting call: its stop said so.
+    stopped = 100  ///< The stop of a waiting call said so, or the call's own function has ended the
+                   ///< pass or the container.
 };
 
 /// The name of a status, as in the list above. Never null.
@@ -60,10 +61,16 @@ template <class It> struct [[nodiscard]] put_range_result {
 
 namespace detail {
 
-/// The status of a code. After `finish` the handles are empty: then a container is as a closed one.
+/// The status of a code. After `finish` the handles are empty, and each call is refused as by a
+/// closed container. A handle has a call under way only in the function of a consume_all_atomic
+/// for which there was no memory.
 constexpr status status_of(std::uint32_t code) noexcept {
-    return code == LOCKFREE_NO_HANDLE || code == LOCKFREE_OTHER_HANDLE ? status::closed
-                                                                       : static_cast<status>(code);
+    switch (code) {
+    case LOCKFREE_NO_HANDLE:
+    case LOCKFREE_OTHER_HANDLE: return status::closed;
+    case LOCKFREE_UNDER_WAY: return status::no_memory;
+    default: return static_cast<status>(code);
+    }
 }
 
 /// Throws what a constructor, `split` or a call that says bool throws for a code. OK throws

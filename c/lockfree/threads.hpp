@@ -6,13 +6,14 @@
 
 #include <cstddef>
 #include <new>
+#include <pthread.h>
 #include <utility>
 
 namespace lockfree {
 inline namespace LOCKFREE_NAMES {
 namespace detail {
 
-/// A thread's seat of a container: null if it has none yet, or if a fold has it.
+/// A thread's seat of a container. Null if it has none yet.
 struct slot {
     core *of;
     seat *by;
@@ -42,7 +43,7 @@ struct slot_table {
 
 /// The top of a product, since containers often lie at equal distances.
 inline std::size_t home_of(const core *of) noexcept {
-    return static_cast<std::size_t>((word_of(of) * 0x9E3779B97F4A7C15) >> 32);
+    return (word_of(of) * 0x9E3779B97F4A7C15) >> 32;
 }
 
 /// That of a thread that has called nothing. Nobody writes it.
@@ -55,18 +56,51 @@ inline thread_local slot_table table_of_thread = {&no_slot, 0};
 enum class thread_state : unsigned char { fresh, calls, ends };
 inline thread_local thread_state state_of_thread = thread_state::fresh;
 
-/// Owns the thread's table.
+/// A key of the threads' own data, whose destructors the C library runs after those of thread_local
+/// objects.
+class key_of_threads {
+public:
+    explicit key_of_threads(void (*at_end)(void *)) noexcept
+        : exists(pthread_key_create(&key, at_end) == 0) {}
+    key_of_threads(const key_of_threads &) = delete;
+    key_of_threads &operator=(const key_of_threads &) = delete;
+    ~key_of_threads() {
+        if (exists) pthread_key_delete(key);
+    }
+    void set(const void *of_thread) const noexcept {
+        if (exists) static_cast<void>(pthread_setspecific(key, of_thread));
+    }
+
+private:
+    pthread_key_t key{};
+    const bool exists;
+};
+
+/// Owns the thread's table. Its destructor gives the seats back when the thread ends. A thread may
+/// make its first call so late that no thread_local object is destroyed any more: in the destructor
+/// of a key of pthreads. Then the destructor of our own key gives the seats back.
 class seats_of_thread {
 public:
-    seats_of_thread() noexcept { state_of_thread = thread_state::calls; }
+    seats_of_thread() noexcept {
+        state_of_thread = thread_state::calls;
+        at_end().set(this);
+    }
     seats_of_thread(const seats_of_thread &) = delete;
     seats_of_thread &operator=(const seats_of_thread &) = delete;
     ~seats_of_thread() {
+        // (The key is set only as long as this is to be destroyed: until then the object that this
+        // code is in stays loaded.)
+        at_end().set(nullptr);
+        give_all_back();
+    }
+
+    void give_all_back() noexcept {
         state_of_thread = thread_state::ends;
         const slot_table last = std::exchange(table_of_thread, {&no_slot, 0});
         for (std::size_t at = 0; at <= last.mask; ++at)
             if (last.slots[at].of) leave(last.slots[at]);
         if (last.slots != &no_slot) delete[] last.slots;
+        count = 0;
     }
 
     /// The thread's slot of a container, without a seat if it is new. Null if there is no memory.
@@ -84,12 +118,22 @@ public:
         return &made;
     }
 
-    /// Gives back the seat of a container that ends, if the thread has one.
-    void forget(const core &of) noexcept {
-        if (slot *const known = table_of_thread.find(&of, home_of(&of))) drop(*known);
+    /// Empties the slot of a container, and returns its seat. Null if the thread has none.
+    seat *take_seat(const core &of) noexcept {
+        slot *const known = table_of_thread.find(&of, home_of(&of));
+        if (!known) return nullptr;
+        seat *const by = std::exchange(known->by, nullptr);
+        drop(*known);
+        return by;
     }
 
 private:
+    static const key_of_threads &at_end() noexcept {
+        static const key_of_threads key(
+            [](void *of_thread) { static_cast<seats_of_thread *>(of_thread)->give_all_back(); });
+        return key;
+    }
+
     static constexpr std::size_t fewest = 8;
     std::size_t count = 0;
     std::size_t swept_at = 0;
@@ -178,7 +222,12 @@ public:
         if (late.by) of.give_back(late.by);
     }
 
-    /// Where the thread's seat is. Null if there is no memory.
+private:
+    core &of;
+    late_call late;
+
+    /// Where the thread's seat is. Null if there is no memory, or a late call is the first one of
+    /// the container.
     seat **place() noexcept {
         if (state_of_thread != thread_state::ends) {
             slot *const at = mine().slot_of(of);
@@ -189,37 +238,20 @@ public:
         return nullptr;
     }
 
-private:
-    core &of;
-    late_call late;
-
 public:
     /// OK, NO_MEMORY, NO_PASS.
     std::uint32_t code = LOCKFREE_NO_MEMORY;
     seat *by = nullptr;
 };
 
-/// Has a seat out of its place during one fold. If the fold's function calls the container, that
-/// call finds the place empty and puts another seat there. That one goes back when the fold ends.
-/// `Place` tells where the place is then.
-template <class Place> class lent {
-public:
-    lent(core &from, Place its_place) noexcept
-        : of(from), place(its_place), by(std::exchange(*place(), nullptr)) {}
-    lent(const lent &) = delete;
-    lent &operator=(const lent &) = delete;
-    ~lent() {
-        seat *const other = std::exchange(*place(), by);
-        if (other) of.give_back(other);
-    }
-
-private:
-    core &of;
-    Place place;
-
-public:
-    seat *const by;
-};
+/// Takes the thread's seat of a container out of its place, where the next call puts another one.
+/// Null if the thread has none.
+inline seat *taken_seat(core &of) noexcept {
+    if (state_of_thread == thread_state::calls) return mine().take_seat(of);
+    for (late_call *at = late_calls; at; at = at->outer)
+        if (at->of == &of) return std::exchange(at->by, nullptr);
+    return nullptr;
+}
 
 }  // namespace detail
 }  // namespace LOCKFREE_NAMES

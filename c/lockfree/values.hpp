@@ -2,6 +2,7 @@
 #pragma once
 
 #include "core.hpp"
+#include "waiting.hpp"
 
 #include <cstddef>
 #include <cstdint>
@@ -15,7 +16,39 @@ namespace lockfree {
 inline namespace LOCKFREE_NAMES {
 namespace detail {
 
-/// Ends a value when it goes out of scope.
+template <class T> void drop_user(core &of) noexcept;
+
+/// Gives back a seat and a share of its core. If a function of a user runs in a call by that seat,
+/// then that call does so when it ends.
+template <class T> [[gnu::noinline]] void leave(core &of, seat *by) noexcept {
+    if (by && by->uses != 0) {
+        by->is_left = true;
+        return;
+    }
+    if (by) {
+        by->is_left = false;
+        of.give_back(by);
+    }
+    detail::drop_user<T>(of);
+}
+
+/// Says while it lives that a call by this seat runs functions of a user, which may end the pass or
+/// the container of the seat.
+template <class T> class in_use {
+public:
+    in_use(core &from, seat &with) noexcept : of(from), by(with) { ++by.uses; }
+    in_use(const in_use &) = delete;
+    in_use &operator=(const in_use &) = delete;
+    ~in_use() {
+        if (--by.uses == 0 && __builtin_expect(by.is_left, 0)) detail::leave<T>(of, &by);
+    }
+
+private:
+    core &of;
+    seat &by;
+};
+
+/// Destroys a value when it goes out of scope.
 template <class T> class ends {
 public:
     explicit ends(T &of) noexcept : value(of) {}
@@ -39,14 +72,14 @@ public:
         if (place) of.give_cell(by, place);
     }
     /// Gets a free cell. If none is free one is made, unless a fold has values in hand: then it is
-    /// full, and tries as long as `again()` is true. OK, full, no_memory.
+    /// full, and tries again as long as `again()` returns true. Returns ok, full or no_memory.
     template <class Again> status find(Again &again) {
         for (;;) {
             const bool folding = of.is_folding();
             place = of.take_cell(by, !folding);
             if (__builtin_expect(place != nullptr, 1)) return status::ok;
             if (!folding) return status::no_memory;
-            if (!again()) return status::full;
+            if (!again() || by.is_left) return status::full;
         }
     }
     void *at() const noexcept { return place; }
@@ -105,7 +138,9 @@ template <class T> std::uint64_t word_of_value(const T &value) noexcept {
     return defined(word);
 }
 
-/// Hands the value that a word stands for to `use`, and ends it; also if `use` throws.
+/// Hands the value that a word stands for to `use`, and destroys it, also if `use` throws. Callers
+/// say that the seat is in use, unless the value is its own word: then no seat is needed after the
+/// word is here.
 template <class T, class F> void use_word(core &of, seat &by, std::uint64_t word, F &&use) {
     if constexpr (goes_by_value<T>) {
         alignas(T) unsigned char bytes[sizeof(T)];
@@ -119,8 +154,9 @@ template <class T, class F> void use_word(core &of, seat &by, std::uint64_t word
     }
 }
 
-/// A refusal, which the container also keeps in mind.
-inline status refused(core &of, std::uint32_t code) noexcept {
+/// A refusal that tells something of the container's life, which the core keeps in mind. Out of
+/// line, so that calls that succeed do not carry it.
+[[gnu::cold, gnu::noinline]] inline status noted(core &of, std::uint32_t code) noexcept {
     if (code == LOCKFREE_CLOSED) {
         gets(&of);
         of.closed.store(true, std::memory_order_release);
@@ -128,15 +164,33 @@ inline status refused(core &of, std::uint32_t code) noexcept {
     if (code == LOCKFREE_SPENT) of.spent.store(true, std::memory_order_release);
     return status_of(code);
 }
+inline status refused(core &of, std::uint32_t code) noexcept {
+    return code <= LOCKFREE_EMPTY ? static_cast<status>(code) : detail::noted(of, code);
+}
 
-/// Puts a word; while it is full, as long as `again()` is true.
-template <class Again> status put_word(core &of, seat &by, std::uint64_t word, Again &again) {
-    for (;;) {
+/// Whether a call tries again once it was refused.
+template <class Again> inline constexpr bool waits = !std::is_same_v<Again, decltype(tries_once)>;
+
+/// Goes on with a put that was refused with `code`: while the container is full, it tries again as
+/// long as `again()` returns true, and the pass or container is there.
+template <class T, class Again> [[gnu::noinline]] status
+put_again(core &of, seat &by, std::uint64_t word, std::uint32_t code, Again &again) {
+    const in_use<T> user(of, by);
+    while (code == LOCKFREE_FULL && again() && !by.is_left) {
         gives(&of);
-        const lockfree_answer answer = put(by.pass, word);
-        if (answer.code == LOCKFREE_OK) return status::ok;
-        if (answer.code != LOCKFREE_FULL || !again()) return refused(of, answer.code);
+        code = put(by.pass, word).code;
+        if (code == LOCKFREE_OK) return status::ok;
     }
+    return refused(of, code);
+}
+/// Puts a word; while the container is full, it tries again as long as `again()` returns true.
+template <class T, class Again> [[gnu::always_inline]] inline status
+put_word(core &of, seat &by, std::uint64_t word, Again &again) {
+    gives(&of);
+    const std::uint32_t code = put(by.pass, word).code;
+    if (__builtin_expect(code == LOCKFREE_OK, 1)) return status::ok;
+    if constexpr (waits<Again>) return detail::put_again<T>(of, by, word, code, again);
+    else return refused(of, code);
 }
 
 /// Puts a value that is made of `args` in its place.
@@ -144,8 +198,9 @@ template <class T, class Again, class... Args>
 status put_made(core &of, seat &by, Again &again, Args &&...args) {
     if constexpr (goes_by_value<T>) {
         const T value(std::forward<Args>(args)...);
-        return detail::put_word(of, by, detail::word_of_value(value), again);
+        return detail::put_word<T>(of, by, detail::word_of_value(value), again);
     } else {
+        const in_use<T> user(of, by);
         held_cell cell(of, by);
         if (const status found = cell.find(again); found != status::ok) return found;
         T *const value = ::new (cell.at()) T(std::forward<Args>(args)...);
@@ -155,7 +210,7 @@ status put_made(core &of, seat &by, Again &again, Args &&...args) {
                 if (value) value->~T();
             }
         } made{value};
-        const status what = detail::put_word(of, by, cell.word(), again);
+        const status what = detail::put_word<T>(of, by, cell.word(), again);
         if (what != status::ok) return what;
         made.value = nullptr;
         cell.given_away();
@@ -166,8 +221,9 @@ status put_made(core &of, seat &by, Again &again, Args &&...args) {
 /// Puts a value by moving it; if it is refused, or `again` throws, it is moved back.
 template <class T, class Again> status put_moved(core &of, seat &by, Again &again, T &value) {
     if constexpr (goes_by_value<T>) {
-        return detail::put_word(of, by, detail::word_of_value(value), again);
+        return detail::put_word<T>(of, by, detail::word_of_value(value), again);
     } else {
+        const in_use<T> user(of, by);
         held_cell cell(of, by);
         if (const status found = cell.find(again); found != status::ok) return found;
         struct unless_put {
@@ -179,7 +235,7 @@ template <class T, class Again> status put_moved(core &of, seat &by, Again &agai
                 detail::move_back(*moved, from);
             }
         } made{::new (cell.at()) T(std::move(value)), value};
-        const status what = detail::put_word(of, by, cell.word(), again);
+        const status what = detail::put_word<T>(of, by, cell.word(), again);
         if (what != status::ok) return what;
         made.moved = nullptr;
         cell.given_away();
@@ -187,8 +243,9 @@ template <class T, class Again> status put_moved(core &of, seat &by, Again &agai
     }
 }
 
-/// Takes a value, and hands it to `use`.
-template <class T, kind K, class F> status take_value(core &of, seat &by, F &&use) {
+/// Takes a value by a seat that is in use, and hands it to `use`.
+template <class T, kind K, class F>
+[[gnu::always_inline]] inline status take_in_use(core &of, seat &by, F &&use) {
     const lockfree_answer answer = detail::take(by.pass);
     if (answer.code != LOCKFREE_OK) return refused(of, answer.code);
     gets(&of);
@@ -197,7 +254,46 @@ template <class T, kind K, class F> status take_value(core &of, seat &by, F &&us
     return status::ok;
 }
 
-/// Ends what is left, whatever can still be taken of it.
+/// Takes a value, and hands it to `use`.
+template <class T, kind K, class F>
+[[gnu::always_inline]] inline status take_value(core &of, seat &by, F &&use) {
+    if constexpr (goes_by_value<T>) {
+        return detail::take_in_use<T, K>(of, by, use);
+    } else {
+        const in_use<T> user(of, by);
+        return detail::take_in_use<T, K>(of, by, use);
+    }
+}
+
+/// Takes up to `most` values, one after another, and hands them to `use`. `stopped` if `use` or a
+/// destructor has ended the pass or the container.
+template <class T, kind K, class F>
+batch take_many(core &of, seat &by, std::size_t most, F &&use) {
+    const in_use<T> user(of, by);
+    batch taken{0, status::ok};
+    for (; taken.count < most; ++taken.count) {
+        taken.what = by.is_left ? status::stopped : detail::take_in_use<T, K>(of, by, use);
+        if (taken.what != status::ok) break;
+    }
+    return taken;
+}
+
+/// Takes a value, and hands it to `use`; while the container is empty, it tries again as long as
+/// `again()` returns true. Nothing comes any more if the container was known to be spent before a
+/// try that found it empty.
+template <class T, kind K, class Again, class F>
+status take_waiting(core &of, seat &by, Again &again, F &&use) {
+    const in_use<T> user(of, by);
+    for (;;) {
+        const bool was_spent = of.spent.load(std::memory_order_acquire);
+        const status what = detail::take_in_use<T, K>(of, by, use);
+        if (what != status::empty) return what;
+        if (was_spent) return status::spent;
+        if (!again() || by.is_left) return status::stopped;
+    }
+}
+
+/// Destroys what is left, as far as it can still be taken.
 template <class T> void end_left(core &of) noexcept {
     if constexpr (!goes_by_value<T>)
         of.take_left(

@@ -3,6 +3,7 @@
 #include "check.hpp"
 
 #include <chrono>
+#include <memory>
 #include <string>
 #include <sys/resource.h>
 #include <thread>
@@ -72,9 +73,150 @@ void stops() {
     CHECK(ring.shut() && ring.try_pop(out) == status::shut);
 }
 
+/// A clock that stands still until it is told the time, and runs from then on.
+struct set_clock {
+    using duration = std::chrono::nanoseconds;
+    using rep = duration::rep;
+    using period = duration::period;
+    using time_point = std::chrono::time_point<set_clock>;
+    static constexpr bool is_steady = false;
+    static inline std::atomic<rep> shows{0};
+    static time_point now() { return time_point(duration(shows.load())); }
+};
+
+/// The wait ends by the clock of its deadline, and sleeps also while that stands still.
+void deadlines_of_a_clock_that_is_set() {
+    lockfree::blocking<lockfree::bounded_queue<int>> queue(1);
+    int out = 0;
+    long used = 0;
+    std::thread waits([&] {
+        rusage before{}, after{};
+        getrusage(RUSAGE_THREAD, &before);
+        CHECK(queue.pop_wait(out, set_clock::time_point(20ms)) == status::stopped);
+        getrusage(RUSAGE_THREAD, &after);
+        const auto since = [](timeval from, timeval to) { return (to.tv_sec - from.tv_sec) * 1000 + (to.tv_usec - from.tv_usec) / 1000; };
+        used = since(before.ru_utime, after.ru_utime) + since(before.ru_stime, after.ru_stime);
+    });
+    std::this_thread::sleep_for(400ms);
+    set_clock::shows = std::chrono::nanoseconds(1h).count();
+    waits.join();
+    CHECK(used < 60);  // milliseconds of a processor; a wait that spins needs most of the 400
+    CHECK(queue.pop_wait(out, std::chrono::steady_clock::time_point::min()) == status::stopped);
+    CHECK(queue.pop_wait(out, set_clock::time_point::min()) == status::stopped);
+}
+
+/// Who sleeps is woken when the container is found to be spent, since nothing comes any more.
+void spent_ones_wake() {
+    lockfree::blocking<lockfree::ring_queue<std::string>> ring(2, lockfree::lap_limit{2});
+    std::thread waits([&] {
+        std::string out;
+        int count = 0;
+        while (ring.pop_wait(out) == status::ok) ++count;
+        CHECK(count == 4 && ring.pop_wait(out) == status::spent && !ring.pop_wait());
+    });
+    for (int i = 0; i < 4; ++i) CHECK(ring.push_wait("a text that is longer than a short one") == status::ok);
+    CHECK(ring.push_wait("one more") == status::spent);
+    waits.join();
+}
+
+/// A value is made once, before the wait; stops may change when they are asked.
+struct counts_copies {
+    static inline std::atomic<int> copies{0};
+    std::string text = "a text that is longer than a short one";
+    counts_copies() = default;
+    counts_copies(counts_copies &&) = default;
+    counts_copies &operator=(counts_copies &&) = default;
+    counts_copies(const counts_copies &other) : text(other.text) { ++copies; }
+    counts_copies &operator=(const counts_copies &) = delete;
+};
+void values_are_made_once() {
+    lockfree::blocking<lockfree::bounded_queue<counts_copies>> queue(1);
+    const counts_copies value;
+    CHECK(queue.try_push(value) == status::ok && counts_copies::copies == 1);
+    struct {
+        int asked = 0;
+        bool operator()() { return ++asked == 3; }
+    } stop;
+    CHECK(queue.push_wait(value, stop) == status::stopped && stop.asked == 3 && counts_copies::copies == 2);
+    CHECK(queue.emplace_wait_until(1ms) == status::stopped && queue.try_pop() && queue.emplace_wait() == status::ok);
+}
+
+template <class Container> void many_at_a_time() {
+    lockfree::blocking<Container> container(4);
+    const std::vector<int> some{1, 2, 3, 4, 5};
+    CHECK(*container.try_push(some.begin(), some.end()).next == 5 && container.try_push_range(some).what == status::full);
+    std::vector<int> out(5);
+    CHECK(container.pop_wait(out.begin(), 5).count == 4 && container.pop_wait(out.begin(), 5, 1ms).what == status::stopped);
+    std::thread pushes([&] { CHECK(container.try_push_range(std::vector<int>{7, 8}).what == status::ok); });
+    std::size_t count = 0;
+    while (count < 2) count += container.pop_wait(out.begin(), 5).count;
+    pushes.join();
+    CHECK(container.try_emplace(9) == status::ok && container.try_consume_one([](int value) { CHECK(value == 9); }) == status::ok);
+    CHECK(container.try_push(9) == status::ok && container.try_consume_all([](int) {}).count == 1);
+    CHECK(container.try_pop(out.begin(), 2).what == status::empty);
+    container.leave();
+}
+
+/// Passes wake and sleep as their container; an empty one does neither.
+void passes() {
+    using queue = lockfree::blocking<lockfree::ring_queue<std::string, lockfree::capacity<2>>>;
+    queue texts(lockfree::pass_limit{2});
+    auto one = texts.split(), other = texts.split();
+    CHECK(one && !texts.try_split() && texts.try_push("by a thread") == status::no_pass);
+    std::thread waits([&] {
+        std::string out;
+        int count = 0;
+        while (other.pop_wait(out) == status::ok) ++count;
+        CHECK(count == 100);
+    });
+    for (int i = 0; i < 100; ++i) CHECK(one.push_wait("a text that is longer than a short one") == status::ok);
+    CHECK(one.close() && one.pass().is_closed());
+    waits.join();
+    other = {};
+    queue::pass none;
+    std::string out;
+    CHECK(!other && none.pop_wait(out) == status::no_pass && none.push_wait("text") == status::no_pass && !none.try_pop());
+}
+
+/// A channel for one reply that ends once the reply is there, while the other thread may still be in its push.
+void replies() {
+    using channel = lockfree::blocking<lockfree::queue<std::string, lockfree::capacity<1>>>;
+    for (int round = 0; round < 200; ++round) {
+        std::thread answers;
+        std::string reply;
+        {
+            channel to_me;
+            answers = std::thread([by = to_me.split()]() mutable { CHECK(by.push_wait("a text that is longer than a short one") == status::ok); });
+            CHECK(to_me.pop_wait(reply) == status::ok);
+        }
+        answers.join();
+    }
+}
+
+/// The function of a call ends the object that it was called of.
+void ends_in_a_call() {
+    auto stack = std::make_unique<lockfree::blocking<lockfree::bounded_stack<std::string>>>(4);
+    CHECK(stack->try_push("one") == status::ok && stack->try_push("two") == status::ok);
+    CHECK(stack->try_consume_all_atomic([&](std::string &) { stack.reset(); }).count == 2);
+    stack = lockfree::make<lockfree::blocking<lockfree::bounded_stack<std::string>>>(4);
+    CHECK(stack && stack->try_push("one") == status::ok);
+    auto pass = std::make_unique<decltype(stack->split())>(stack->split());
+    CHECK(pass->try_consume_all_atomic_reversed([&](std::string &) { pass.reset(), stack.reset(); }).count == 1);
+    CHECK(!lockfree::make<lockfree::blocking<lockfree::bounded_stack<int>>>(0));
+    CHECK((lockfree::make<lockfree::blocking<lockfree::ring_queue<int, lockfree::capacity<4>>>>(lockfree::pass_limit{3})));
+}
+
 }  // namespace
 
 int main() {
+    deadlines_of_a_clock_that_is_set();
+    spent_ones_wake();
+    values_are_made_once();
+    many_at_a_time<lockfree::bounded_queue<int>>();
+    many_at_a_time<lockfree::bounded_stack<int>>();
+    passes();
+    replies();
+    ends_in_a_call();
     all_values_come<lockfree::bounded_queue<std::string>>();
     all_values_come<lockfree::bounded_stack<std::string>>();
     all_values_come<lockfree::ring_queue<std::string>>();

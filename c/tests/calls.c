@@ -101,7 +101,9 @@ static void gauging(make_new *make, uint64_t of_take)
     lockfree_free(&root);
     CHECK(make(&root, 3) == LOCKFREE_OK && lockfree_split(&root, &a) == LOCKFREE_OK);
     CHECK(lockfree_shut(&a, 9).code == LOCKFREE_OK && !lockfree_is_closed(&a) && lockfree_push(&a, 1) == LOCKFREE_OK && lockfree_wear(&a) == 1);
-    if (lockfree_range_add(&a, 1) == LOCKFREE_OK)
+    lockfree_free(&a), lockfree_free(&root);
+    CHECK(make(&root, 3) == LOCKFREE_OK && lockfree_split(&root, &a) == LOCKFREE_OK && lockfree_push(&a, 1) == LOCKFREE_OK);
+    if (lockfree_fold(&a, false, 9).code == LOCKFREE_VALUE)
         CHECK(lockfree_gauge(&a, 9).code == LOCKFREE_UNDER_WAY && !lockfree_is_closed(&a) && lockfree_wear(&a) == 0);
     lockfree_free(&a), lockfree_free(&root);
 }
@@ -125,8 +127,7 @@ static void rings(void)
         CHECK(lockfree_push(&passes[i % 5], i) == LOCKFREE_OK && lockfree_number(&passes[i % 5]).value == i);
         CHECK(lockfree_pop(&passes[i / 3 % 5], &value) == LOCKFREE_OK && value == i && lockfree_number(&passes[i / 3 % 5]).value == i);
     }
-    CHECK(lockfree_fold(&passes[0], false, 9).code == LOCKFREE_OTHER_HANDLE && lockfree_range_add(&passes[0], 1) == LOCKFREE_OTHER_HANDLE);
-    CHECK(lockfree_range_put(&passes[0], 9).code == LOCKFREE_OTHER_HANDLE && lockfree_put_range(&passes[0], values, 2, 9).code == LOCKFREE_OTHER_HANDLE);
+    CHECK(lockfree_fold(&passes[0], false, 9).code == LOCKFREE_OTHER_HANDLE && lockfree_put_range(&passes[0], values, 2, 9).code == LOCKFREE_OTHER_HANDLE);
     CHECK(lockfree_gauge(&passes[0], 9).value == 5000 && lockfree_count(&passes[0], 9).value == 0);
     CHECK(lockfree_look(&passes[0], 9).code == LOCKFREE_EMPTY && lockfree_go_on(&passes[0], 9).code == LOCKFREE_NO_CALL);
     for (int i = 0; i < 5; i++)
@@ -350,7 +351,7 @@ static void folding(bool reversed)
         CHECK(answer.code == LOCKFREE_VALUE && answer.value == (reversed ? i : 4 - i));
         CHECK(lockfree_take(&pass, 9).code == LOCKFREE_UNDER_WAY && lockfree_put(&pass, 9, 9).code == LOCKFREE_UNDER_WAY);
         CHECK(lockfree_look(&pass, 9).code == LOCKFREE_UNDER_WAY && lockfree_fold(&pass, reversed, 9).code == LOCKFREE_UNDER_WAY);
-        CHECK(lockfree_range_add(&pass, 9) == LOCKFREE_UNDER_WAY && lockfree_range_put(&pass, 9).code == LOCKFREE_UNDER_WAY);
+        CHECK(lockfree_put_range(&pass, &i, 1, 9).code == LOCKFREE_UNDER_WAY);
         CHECK(lockfree_split(&pass, &root) == LOCKFREE_IN_USE && lockfree_look(&other, 9).code == LOCKFREE_EMPTY);
         answer = lockfree_go_on(&pass, 9);
     }
@@ -391,43 +392,10 @@ static void folds(void)
     lockfree_free(&pass), lockfree_free(&root);
 }
 
-static void adds(lockfree_handle *pass, uint64_t from, uint64_t to)
-{
-    for (uint64_t i = from; i <= to; i++)
-        CHECK(lockfree_range_add(pass, i) == LOCKFREE_OK);
-}
-
 static void pops(lockfree_handle *pass, uint64_t expected)
 {
     uint64_t value = 0;
     CHECK(lockfree_pop(pass, &value) == LOCKFREE_OK && value == expected);
-}
-
-/* While a pass collects a range nobody sees its values, and another call changes nothing. */
-static void collecting(void)
-{
-    lockfree_handle root = {0}, pass = {0}, other = {0};
-    CHECK(lockfree_range_add(&pass, 1) == LOCKFREE_NO_HANDLE && lockfree_range_put(&pass, 9).code == LOCKFREE_NO_HANDLE);
-    CHECK(lockfree_stack_new(&root, 4) == LOCKFREE_OK && lockfree_split(&root, &pass) == LOCKFREE_OK && lockfree_split(&root, &other) == LOCKFREE_OK);
-    CHECK(lockfree_range_add(&root, 1) == LOCKFREE_OTHER_HANDLE && lockfree_range_put(&root, 9).code == LOCKFREE_OTHER_HANDLE);
-    CHECK(lockfree_range_put(&pass, 9).code == LOCKFREE_EMPTY && lockfree_push(&pass, 1) == LOCKFREE_OK);
-    pops(&pass, 1);
-    for (uint64_t i = 1; i <= 3; i++) {
-        CHECK(lockfree_range_add(&pass, i) == LOCKFREE_OK && lockfree_go_on(&pass, 9).code == LOCKFREE_NO_CALL);
-        CHECK(lockfree_put(&pass, 9, 9).code == LOCKFREE_UNDER_WAY && lockfree_take(&pass, 9).code == LOCKFREE_UNDER_WAY);
-        CHECK(lockfree_close(&pass, 9).code == LOCKFREE_UNDER_WAY && lockfree_shut(&pass, 9).code == LOCKFREE_UNDER_WAY);
-        CHECK(lockfree_look(&pass, 9).code == LOCKFREE_UNDER_WAY && lockfree_fold(&pass, false, 9).code == LOCKFREE_UNDER_WAY);
-        CHECK(lockfree_split(&pass, &root) == LOCKFREE_IN_USE && lockfree_look(&other, 9).code == LOCKFREE_EMPTY);
-    }
-    lockfree_answer put = lockfree_range_put(&pass, 0);
-    CHECK(put.code == LOCKFREE_OK && put.value == 3 && lockfree_number(&pass).value == 2); /* after one put and one take */
-    CHECK(lockfree_go_on(&pass, 9).code == LOCKFREE_NO_CALL && lockfree_range_put(&pass, 9).code == LOCKFREE_EMPTY);
-    pops(&other, 3), pops(&pass, 2), pops(&other, 1);
-    adds(&pass, 1, 2);
-    CHECK(lockfree_free(&pass) == LOCKFREE_OK); /* it held no cell */
-    for (uint64_t i = 1; i <= 4; i++)
-        CHECK(lockfree_push(&other, i) == LOCKFREE_OK);
-    lockfree_free(&other), lockfree_free(&root);
 }
 
 /* What is put where there is not room for all, or for none, or no put is let in. */
@@ -435,8 +403,8 @@ static void ranges(void)
 {
     lockfree_handle root = {0}, pass = {0}, other = {0};
     const uint64_t seven[] = {1, 2, 3, 4, 5, 6, 7};
+    CHECK(lockfree_put_range(&pass, seven, 7, 9).code == LOCKFREE_NO_HANDLE);
     CHECK(lockfree_queue_new(&root, 4) == LOCKFREE_OK && lockfree_split(&root, &pass) == LOCKFREE_OK);
-    CHECK(lockfree_range_add(&pass, 1) == LOCKFREE_OTHER_HANDLE && lockfree_range_put(&pass, 9).code == LOCKFREE_OTHER_HANDLE);
     CHECK(lockfree_push_range(&pass, seven, 7).code == LOCKFREE_OTHER_HANDLE && lockfree_look(&pass, 9).code == LOCKFREE_EMPTY);
     CHECK(lockfree_put_range(&root, seven, 7, 9).code == LOCKFREE_OTHER_HANDLE);
     lockfree_free(&pass), lockfree_free(&root);
@@ -446,40 +414,26 @@ static void ranges(void)
     CHECK(put.code == LOCKFREE_OK && put.value == 4 && lockfree_number(&pass).value == 0);
     CHECK(lockfree_push_range(&pass, seven, 2).code == LOCKFREE_FULL && lockfree_push(&pass, 8) == LOCKFREE_FULL);
     pops(&other, 4), pops(&pass, 3);
-    adds(&pass, 11, 13);
-    put = lockfree_range_put(&pass, 9);
+    put = lockfree_put_range(&pass, seven + 4, 3, 9);
     CHECK(put.code == LOCKFREE_OK && put.value == 2 && lockfree_number(&pass).value == 3);
-    pops(&other, 12), pops(&pass, 11), pops(&other, 2), pops(&pass, 1);
-    adds(&pass, 1, 2);
-    CHECK(lockfree_put_range(&pass, seven, 7, 9).code == LOCKFREE_UNDER_WAY);
-    CHECK(lockfree_close(&other, 9).code == LOCKFREE_OK && lockfree_range_put(&pass, 9).code == LOCKFREE_CLOSED);
+    pops(&other, 6), pops(&pass, 5), pops(&other, 2), pops(&pass, 1);
+    CHECK(lockfree_close(&other, 9).code == LOCKFREE_OK);
     CHECK(lockfree_put_range(&pass, seven, 7, 9).code == LOCKFREE_CLOSED && lockfree_put_range(&pass, seven, 0, 9).code == LOCKFREE_EMPTY);
     CHECK(lockfree_put(&pass, 1, 9).code == LOCKFREE_CLOSED && lockfree_take(&other, 9).code == LOCKFREE_CLOSED);
     lockfree_free(&pass), lockfree_free(&root), lockfree_free(&other);
 }
 
-/* What was added before there was no memory is still there. */
+/* A put of an array asks for no memory. */
 static void ranges_without_memory(void)
 {
     const uint64_t nine[] = {1, 2, 3, 4, 5, 6, 7, 8, 9};
     lockfree_handle root = {0}, pass = {0};
     CHECK(lockfree_stack_new(&root, 16) == LOCKFREE_OK && lockfree_split(&root, &pass) == LOCKFREE_OK);
     refused = 1;
-    CHECK(lockfree_range_add(&pass, 1) == LOCKFREE_NO_MEMORY && lockfree_range_put(&pass, 9).code == LOCKFREE_EMPTY);
-    refused = 1;
     lockfree_answer put = lockfree_push_range(&pass, nine, 9);
-    CHECK(put.code == LOCKFREE_OK && put.value == 9 && refused == 1); /* an array takes none */
+    CHECK(put.code == LOCKFREE_OK && put.value == 9 && refused == 1);
     refused = 0;
     for (uint64_t i = 9; i >= 1; i--)
-        pops(&pass, i);
-    uint64_t next = 1;
-    CHECK(lockfree_range_add(&pass, next++) == LOCKFREE_OK);
-    refused = 1;
-    while (lockfree_range_add(&pass, next) == LOCKFREE_OK)
-        next++;
-    CHECK(refused == 0 && next < 16 && lockfree_range_add(&pass, next) == LOCKFREE_OK);
-    CHECK(lockfree_range_put(&pass, 9).value == next);
-    for (uint64_t i = next; i >= 1; i--)
         pops(&pass, i);
     lockfree_free(&pass), lockfree_free(&root);
 }
@@ -493,7 +447,7 @@ static lockfree_answer puts_array(lockfree_handle *pass, const uint64_t *values,
     lockfree_answer put;
     while ((put = lockfree_put_range(pass, values, count, 0)).code == LOCKFREE_BUSY) {
         CHECK(lockfree_go_on(pass, 9).code == LOCKFREE_NO_CALL && lockfree_put(pass, 1, 9).code == LOCKFREE_UNDER_WAY);
-        CHECK(lockfree_range_add(pass, 1) == LOCKFREE_UNDER_WAY && lockfree_range_put(pass, 1).code == LOCKFREE_UNDER_WAY);
+        CHECK(lockfree_take(pass, 9).code == LOCKFREE_UNDER_WAY && lockfree_fold(pass, false, 9).code == LOCKFREE_UNDER_WAY);
     }
     return put;
 }
@@ -504,24 +458,9 @@ static void *puts_ranges(void *at)
     uint64_t range[LONG];
     for (uint64_t first = work->from; first < work->from + RANGES * LONG; first += LONG)
         for (uint64_t done = 0; done < LONG;) {
-            if (first / LONG % 2 == 0) {
-                for (uint64_t i = done; i < LONG; i++)
-                    range[i] = first + i;
-                lockfree_answer put = puts_array(&work->pass, range + done, LONG - done);
-                CHECK(put.code == LOCKFREE_OK || put.code == LOCKFREE_FULL);
-                if (put.code == LOCKFREE_FULL)
-                    sched_yield();
-                else if ((done += put.value) < LONG)
-                    __atomic_store_n(&in_parts[first / LONG], 1, __ATOMIC_RELAXED);
-                continue;
-            }
-            adds(&work->pass, first + done, first + LONG - 1);
-            lockfree_answer put = lockfree_range_put(&work->pass, 0);
-            while (put.code == LOCKFREE_BUSY) {
-                CHECK(lockfree_range_add(&work->pass, 1) == LOCKFREE_UNDER_WAY);
-                CHECK(lockfree_range_put(&work->pass, 1).code == LOCKFREE_UNDER_WAY);
-                put = lockfree_go_on(&work->pass, 0);
-            }
+            for (uint64_t i = done; i < LONG; i++)
+                range[i] = first + i;
+            lockfree_answer put = puts_array(&work->pass, range + done, LONG - done);
             CHECK(put.code == LOCKFREE_OK || put.code == LOCKFREE_FULL);
             if (put.code == LOCKFREE_FULL)
                 sched_yield();
@@ -603,7 +542,6 @@ int main(void)
     folding(false);
     folding(true);
     folds();
-    collecting();
     ranges();
     ranges_without_memory();
     ranges_of_many_threads();

@@ -21,6 +21,10 @@
 // reason 18: own queue or stack is included already
 // reason 19: there is nothing to reserve
 // reason 20: deleted
+// reason 21: no matching function
+// reason 22: no matching function
+// reason 23: no matching function
+// reason 24: discards qualifiers
 #ifndef CASE
 #define CASE 0
 #endif
@@ -88,6 +92,21 @@ int main() {
 #elif CASE == 20
     queue<unassignable, capacity<8>> bases;
     bases.push(derived());
+#elif CASE == 21
+    queue<const std::string *, capacity<8>> pointers;
+    std::string *to = nullptr;
+    pointers.pop(to);
+#elif CASE == 22
+    queue<unsigned long, capacity<8>> numbers;
+    std::string *to = nullptr;
+    return numbers.try_pop(to) == status::ok;
+#elif CASE == 23
+    stack<unassignable *, capacity<8>> bases;
+    derived *to = nullptr;
+    bases.pop(to);
+#elif CASE == 24
+    const auto pass = sound.split();
+    return pass.empty();
 #endif
     return sound.push(1) && also_sound.push(2) ? 0 : 1;
 }

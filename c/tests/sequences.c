@@ -24,7 +24,7 @@ struct model {
     uint32_t handles;
 };
 
-enum kind { NONE, ROOT, PASS, FOLD, RANGE, REST };
+enum kind { NONE, ROOT, PASS, FOLD, REST };
 
 /* A handle, and what it has to be. */
 struct slot {
@@ -32,7 +32,7 @@ struct slot {
     enum kind kind;
     struct model *of;
     uint64_t number;
-    uint64_t list[ADDED]; /* what a fold has yet to hand out, or what a range has collected */
+    uint64_t list[MOST]; /* what a fold has yet to hand out */
     uint32_t count, all;
 };
 
@@ -67,7 +67,7 @@ static uint32_t refusal(const struct slot *slot, bool of_stack)
 {
     if (slot->kind == NONE)
         return LOCKFREE_NO_HANDLE;
-    if (slot->kind == FOLD || slot->kind == RANGE)
+    if (slot->kind == FOLD)
         return LOCKFREE_UNDER_WAY;
     return slot->kind == PASS && (!of_stack || slot->of->stack) ? LOCKFREE_OK : LOCKFREE_OTHER_HANDLE;
 }
@@ -309,46 +309,7 @@ static void go_on(struct slot *slot)
     if (slot->kind == FOLD)
         hands_out(slot, answer);
     else
-        is(answer, slot->kind == NONE ? LOCKFREE_NO_HANDLE : slot->kind == PASS || slot->kind == RANGE ? LOCKFREE_NO_CALL : LOCKFREE_OTHER_HANDLE, 0);
-}
-
-static void add(struct slot *slot)
-{
-    if (slot->kind == RANGE && slot->count == ADDED)
-        return;
-    uint64_t value = next_value++;
-    uint32_t why = slot->kind == RANGE ? LOCKFREE_OK : refusal(slot, true);
-    may_refuse();
-    uint32_t code = lockfree_range_add(&slot->handle, value);
-    bool none = was_refused();
-    CHECK(code == (none ? LOCKFREE_NO_MEMORY : why));
-    if (code != LOCKFREE_OK)
-        return;
-    if (slot->kind == PASS)
-        slot->kind = RANGE, slot->count = 0;
-    slot->list[slot->count++] = value;
-}
-
-static void put_range(struct slot *slot)
-{
-    struct model *m = slot->of;
-    uint32_t why = slot->kind == RANGE ? LOCKFREE_OK : refusal(slot, true);
-    may_refuse();
-    lockfree_answer answer = lockfree_until(&slot->handle, lockfree_range_put(&slot->handle, below(3)));
-    if (why != LOCKFREE_OK || slot->kind == PASS) {
-        is(answer, why != LOCKFREE_OK ? why : LOCKFREE_EMPTY, 0);
-        return;
-    }
-    slot->kind = PASS, slot->number = 0;
-    if (m->closed || room(m) == 0) {
-        is(answer, m->closed ? LOCKFREE_CLOSED : LOCKFREE_FULL, 0);
-        return;
-    }
-    uint32_t put = slot->count < room(m) ? slot->count : room(m);
-    for (uint32_t i = 0; i < put; i++)
-        put_in(m, slot->list[i]);
-    slot->number = number_of_put(m);
-    is(answer, LOCKFREE_OK, put);
+        is(answer, slot->kind == NONE ? LOCKFREE_NO_HANDLE : slot->kind == PASS ? LOCKFREE_NO_CALL : LOCKFREE_OTHER_HANDLE, 0);
 }
 
 static void put_array(struct slot *slot)
@@ -437,7 +398,7 @@ static void move(struct slot *slot)
 
 /* Calls that fill and empty come more often. */
 typedef void call(struct slot *slot);
-static call *const calls[] = {make, split, split, put, put, put, take, take, close_it, shut_it, look, number, fold, go_on, go_on, add, add, put_range, put_array, count, gauge, finish, give_up, move};
+static call *const calls[] = {make, split, split, put, put, put, take, take, close_it, shut_it, look, number, fold, go_on, go_on, put_array, put_array, count, gauge, finish, give_up, move};
 
 static void sequence(void)
 {

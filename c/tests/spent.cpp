@@ -108,6 +108,21 @@ template <class Container> void ends() {
     shut_with_a_pass<Container>();
 }
 
+/// A pop that waits ends once nothing can come, also if it waits already when a push is refused.
+template <class Container, class Limit> void waits_end(Limit limit) {
+    Container container(4, limit);
+    long popped = 0, pushed = 0;
+    std::thread waits([&] {
+        typename Container::value_type out;
+        while (container.pop_wait(out) == status::ok) ++popped;
+        CHECK(container.pop_wait(out) == status::spent && container.try_pop(out) == status::empty);
+        CHECK(!container.pop_wait() && container.pop_wait(&out, 1).what == status::spent);
+    });
+    while (container.push_wait(typename Container::value_type(1)) == status::ok) ++pushed;
+    waits.join();
+    CHECK(pushed >= 7 && pushed == popped && container.try_push(typename Container::value_type(1)) == status::spent);
+}
+
 template <class Container> void all() {
     wears_out<Container>();
     leftovers_of_a_spent_one<Container>();
@@ -120,6 +135,9 @@ int main() {
     all<lockfree::bounded_queue<counted>>();
     all<lockfree::bounded_stack<counted>>();
     ends<lockfree::ring_queue<counted>>();
+    waits_end<lockfree::bounded_queue<counted>>(lockfree::tag_limit{9});
+    waits_end<lockfree::bounded_queue<int>>(lockfree::tag_limit{9});
+    waits_end<lockfree::ring_queue<counted>>(lockfree::lap_limit{2});
     lockfree::queue<int, lockfree::capacity<2>> small{lockfree::tag_limit{3}};
     int out = 0;
     CHECK(small.push(1) && small.push(2) && small.pop(out) && out == 1 && small.pop(out) && out == 2);

@@ -1,17 +1,17 @@
 """The figures that were measured: docs/figures/speed.tsv and calls.tsv, and whether they are of the code as it is.
 
-The first lines of each file, which begin with '#', say what was measured: the commit, the digests of the code by the language
-that calls it, the machine and the rounds. Then comes the line with the names of the columns. '-' is a figure that was not
-measured. bench/compare --write writes both files."""
+The first lines of each file, which begin with '#', say what was measured: the commit, a digest of the code, the machine and
+the rounds. Then comes the line with the names of the columns. '-' is a figure that was not measured. bench/compare --write
+writes both files. Nothing writes array_queue.tsv anew: it was measured from Rattle, by a program that this tree no longer has."""
 
 import os
 
 import measured_code
 
 HERE = os.path.dirname(os.path.realpath(__file__))
-SPEED, CALLS = f"{HERE}/speed.tsv", f"{HERE}/calls.tsv"
+SPEED, CALLS, ARRAY_QUEUE = f"{HERE}/speed.tsv", f"{HERE}/calls.tsv", f"{HERE}/array_queue.tsv"
 HEADS = {
-    SPEED: "container from capacity threads bytes work ns boost_ns low high p50 p99 p999 boost_p999".split(),
+    SPEED: "container capacity threads bytes work ns boost_ns low high p50 p99 p999 boost_p999".split(),
     CALLS: "container call bytes here boost".split(),
 }
 
@@ -35,7 +35,7 @@ def number(cell):
     return None if cell == "-" else float(cell)
 
 
-def at_commit(about, *callers):
-    """Of which code figures of calls from these languages are: the commit, and whether the code is another now."""
-    is_now = all(about[caller] == measured_code.digest(caller) for caller in callers)
+def at_commit(about):
+    """Of which code figures are: the commit, and whether the code is another now."""
+    is_now = about["code"] == measured_code.digest()
     return f"at commit `{about['commit']}`{'' if is_now else ', before later changes'}"

@@ -10,11 +10,9 @@ import re
 import subprocess
 
 TOP = os.path.dirname(os.path.dirname(os.path.dirname(os.path.realpath(__file__))))
-# By the language that calls: the crate that it calls, and the other files.
-PARTS = {
-    "C++": ("lockfree_c", ("c/lockfree.h", "c/lockfree.hpp", "c/lockfree/*.hpp", "bench/peers.cpp", "bench/refusals.cpp")),
-    "Rattle": ("bench_containers", ("bench/peers.cpp",)),
-}
+# The crate that is called, and the other files.
+CRATE = "lockfree_c"
+FILES = ("c/lockfree.h", "c/lockfree.hpp", "c/lockfree/*.hpp", "bench/peers.cpp", "bench/refusals.cpp")
 COMMENT = re.compile(r"//[^\n]*|/\*.*?\*/", re.S)
 IMPORT = re.compile(r"\bghost use\b[^;]*;")
 # How a contract or another text for the prover begins.
@@ -38,13 +36,12 @@ def crates_below(name):
     return sorted(found)
 
 
-def paths_of(caller):
-    crate, files = PARTS[caller]
-    return [*(f"crates/{it}/src" for it in crates_below(crate)), *files]
+def all_paths():
+    return [*(f"crates/{it}/src" for it in crates_below(CRATE)), *FILES]
 
 
-def files_of(caller):
-    for path in paths_of(caller):
+def all_files():
+    for path in all_paths():
         pattern = f"{path}/**/*.rt" if path.startswith("crates/") else path
         yield from sorted(os.path.relpath(it, TOP) for it in glob.glob(f"{TOP}/{pattern}", recursive=True))
 
@@ -69,10 +66,10 @@ def code_of(path):
 
 
 @functools.cache
-def digest(caller):
-    """A name for the code that a call from this language runs, as it is in this tree."""
+def digest():
+    """A name for the code that is measured, as it is in this tree."""
     whole = hashlib.sha256()
-    for path in files_of(caller):
+    for path in all_files():
         whole.update(f"{path}\n{code_of(path)}\n".encode())
     return whole.hexdigest()[:16]
 
@@ -85,5 +82,4 @@ def git(*words):
 
 def commit():
     """The commit of this tree, unless files were changed on which figures depend."""
-    paths = [it for caller in PARTS for it in paths_of(caller)]
-    return git("rev-parse", "--short=8", "HEAD") if not git("status", "--porcelain", "--", *paths) else ""
+    return git("rev-parse", "--short=8", "HEAD") if not git("status", "--porcelain", "--", *all_paths()) else ""

@@ -1,5 +1,4 @@
-"""The tables of figures in README.md, docs/benchmarks.md and docs/internals/benchmarks-rattle.md, made of what docs/figures keeps.
-docs/count writes them."""
+"""The tables of figures in README.md and docs/benchmarks.md, made of what docs/figures keeps. docs/count writes them."""
 
 import os
 import statistics
@@ -11,13 +10,22 @@ import kept  # noqa: E402
 import measured_code  # noqa: E402
 
 NAMES = {"ring": "`ring_queue`", "queue": "`queue`", "stack": "`stack`"}
-OTHERS = {"mutex-stack": "mutex and vector", "mutex-queue": "mutex and deque", "array-queue": "crossbeam's `ArrayQueue`", "moodycamel": "moodycamel's `ConcurrentQueue`"}
-# What the README says of each container beside its figures.
+OTHERS = {"mutex-stack": "mutex and vector", "mutex-queue": "mutex and deque", "moodycamel": "moodycamel's `ConcurrentQueue`"}
+FROM_RATTLE = {"array-queue": "crossbeam's `ArrayQueue`"}
+# What the README says of each container beside its figures: its name, its order, and how many values it takes in its life, with
+# 2^42 - 1 tags, of which a stack uses two for a value. A ring of 1,024 slots takes each of its 2^41 - 1 laps' values.
 TAKEN = {
-    "ring": ("`ring_queue`", "FIFO", "you can bound the number of threads"),
-    "queue": ("`queue` (Michael, Scott)", "FIFO", "threads come and go"),
-    "stack": ("`stack` (Treiber)", "LIFO", "you need a pool of things"),
+    "ring": ("`ring_queue`", "FIFO", (2**41 - 1) * 1024),
+    "queue": ("`queue` (Michael-Scott)", "FIFO", 2**42 - 1),
+    "stack": ("`stack` (Treiber)", "LIFO", (2**42 - 1) // 2),
 }
+DAY, YEAR = 86_400, 31_557_600
+# The lives of docs/lifetime.md: what a container is called, its kind, and how many values it takes; and the values a second.
+LIVES = (
+    ("`ring_queue`, 1,024 slots", "ring", TAKEN["ring"][2]), ("`ring_queue`, 64 slots", "ring", TAKEN["ring"][2] // 16),
+    ("`queue`", "queue", TAKEN["queue"][2]), ("`stack`", "stack", TAKEN["stack"][2]),
+)
+RATES = (1_000_000, 100_000, 1_000)
 
 
 def between(numbers, form):
@@ -30,12 +38,13 @@ def ratio(value):
 
 
 def microseconds(value):
-    return f"{value / 1000:.1f}" if value < 10_000 else f"{value / 1000:.0f}"
+    """Nanoseconds in microseconds, with two digits; a third would say more than was measured."""
+    return f"{value / 1000:.2f}" if value < 995 else f"{value / 1000:.1f}" if value < 9_950 else f"{value / 1000:.0f}"
 
 
 def plain(rows, **wanted):
-    """The rows with these cells, by default from C++, of 8 bytes and without work."""
-    cells = {"from": "C++", "bytes": "8", "work": "0", **wanted}
+    """The rows with these cells, by default of 8 bytes and without work."""
+    cells = {"bytes": "8", "work": "0", **wanted}
     return [row for row in rows if all(row[name] == cell for name, cell in cells.items())]
 
 
@@ -53,26 +62,44 @@ def slowest(rows, column="p999"):
 
 def tail_of(rows, column):
     found = slowest(rows, column)
-    return f"{found[0]:,.0f}" if found else "-"
+    return microseconds(found[0]) if found else "-"
+
+
+def lasts(values, a_second=1_000_000):
+    """How long these values last at this rate, rounded down to years, months or days."""
+    seconds = values // a_second
+    if seconds < 90 * DAY:
+        return f"{seconds // DAY} days"
+    return f"{seconds // YEAR:,} years" if seconds >= 2 * YEAR else f"{seconds * 12 // YEAR} months"
+
+
+def lives(_):
+    """The lives of containers by the rate at which values pass, the ring first. The last row is of the measured speed of one thread."""
+    about, rows = kept.read(kept.SPEED)
+    alone = {row["container"]: kept.number(row["ns"]) for row in plain(rows, threads="one")}
+    yield "| Values a second | " + " | ".join(called for called, _, _ in LIVES) + " |\n|---|" + "---|" * len(LIVES) + "\n"
+    for rate in RATES:
+        yield f"| {rate:,} | " + " | ".join(lasts(values, rate) for _, _, values in LIVES) + " |\n"
+    fastest = (lasts(int(values * alone[kind]), 1_000_000_000) for _, kind, values in LIVES)
+    yield f"| one thread from C++ without a pause, {kept.at_commit(about)} | " + " | ".join(fastest) + " |\n"
 
 
 def containers(rows):
-    """Each container with its two ratios and its tail: a row of the README's table."""
-    yield "| C++ | Order | Take it if | Between threads | On one | p99.9, µs |\n|---|---|---|---|---|---|\n"
-    for name, (called, order, when) in TAKEN.items():
-        of = plain(rows, container=name)
-        alone = [row for row in of if row["threads"] == "one"]
-        shared = [row for row in of if row["threads"] != "one"]
-        yield f"| {called} | {order} | {when} | {ratio_of(shared)} | {ratio_of(alone)} | {between(slowest(shared), microseconds)} |\n"
+    """Each container between threads, without work and with it, its tail beside Boost's, and its life: a row of the README's table."""
+    yield "| C++ | Order | Time, Boost's = 1 | With work | p99.9, µs (Boost's) | Worn out in |\n|---|---|---|---|---|---|\n"
+    for name, (called, order, values) in TAKEN.items():
+        shared, working = ([row for row in plain(rows, container=name, work=work) if row["threads"] != "one"] for work in ("0", "480"))
+        tails = f"{between(slowest(shared), microseconds)} ({between(slowest(shared, 'boost_p999'), microseconds)})"
+        yield f"| {called} | {order} | {ratio_of(shared)} | {ratio_of(working)} | {tails} | {lasts(values)} |\n"
 
 
-def case_rows(rows, names, caller):
+def case_rows(rows, names):
     """One row for one case: the ratio and the tail, without work and with it."""
-    yield "| Container | Capacity | Threads | Ratio to Boost | p99.9, ns | Boost's, ns | With work: ratio | p99.9, ns | Boost's, ns |\n"
+    yield "| Container | Capacity | Threads | Ratio to Boost | p99.9, µs | Boost's | With work: ratio | p99.9, µs | Boost's |\n"
     yield "|---|---|---|---|---|---|---|---|---|\n"
     for name, called in names.items():
-        for row in plain(rows, container=name, **{"from": caller}):
-            case = {"container": name, "capacity": row["capacity"], "threads": row["threads"], "from": caller}
+        for row in plain(rows, container=name):
+            case = {"container": name, "capacity": row["capacity"], "threads": row["threads"]}
             working = plain(rows, **case, work="480")
             cells = [called, f"{int(row['capacity']):,}", row["threads"]]
             for found in ([row], working):
@@ -81,11 +108,7 @@ def case_rows(rows, names, caller):
 
 
 def cases(rows):
-    yield from case_rows(rows, NAMES, "C++")
-
-
-def cases_from_rattle(rows):
-    yield from case_rows(rows, NAMES, "Rattle")
+    yield from case_rows(rows, NAMES)
 
 
 def is_between_threads(row):
@@ -101,19 +124,28 @@ def mean(rows):
 def means(rows):
     """The containers beside one another: the mean ratio of all cases between threads, by the work between calls."""
     works = sorted({int(row["work"]) for row in rows})
-    yield "| Container | Called from | " + " | ".join(f"{work} ns of work" if work else "Without work" for work in works) + " |\n"
-    yield "|---|---|" + "---|" * len(works) + "\n"
+    yield "| Container | " + " | ".join(f"{work} ns of work" if work else "Without work" for work in works) + " |\n"
+    yield "|---|" + "---|" * len(works) + "\n"
     for name, called in {**NAMES, **OTHERS}.items():
-        for caller in ("C++", "Rattle"):
-            found = [plain(rows, container=name, work=str(work), **{"from": caller}) for work in works]
-            if any(found):
-                yield f"| {called} | {caller} | " + " | ".join(map(mean, found)) + " |\n"
+        found = [plain(rows, container=name, work=str(work)) for work in works]
+        if any(found):
+            yield f"| {called} | " + " | ".join(map(mean, found)) + " |\n"
+
+
+def means_by_capacity(rows):
+    """The same for each capacity by itself, of the ring and of the queues beside it."""
+    places = [(capacity, work) for capacity in ("4096", "8") for work in ("0", "480")]
+    heads = [f"{int(capacity):,} slots, " + (f"{work} ns of work" if work != "0" else "without work") for capacity, work in places]
+    yield "| Container | " + " | ".join(heads) + " |\n|---|" + "---|" * len(places) + "\n"
+    for name, called in {"ring": NAMES["ring"], **OTHERS}.items():
+        found = [plain(rows, container=name, capacity=capacity, work=work) for capacity, work in places]
+        if any(found) and "stack" not in name:
+            yield f"| {called} | " + " | ".join(map(mean, found)) + " |\n"
 
 
 def others(rows):
     """The other containers, one row for one case."""
-    from_cpp, from_rattle = ([*case_rows(rows, OTHERS, caller)] for caller in ("C++", "Rattle"))
-    yield from from_cpp + from_rattle[2:]
+    yield from case_rows(rows, OTHERS)
 
 
 def sizes(rows):
@@ -139,33 +171,37 @@ def calls(rows):
 def instructions(_):
     """The instructions of calls on one thread, as tests/instructions compares them."""
     with open(f"{measured_code.TOP}/tests/instructions.txt", encoding="utf-8") as file:
-        counts = dict(line.split() for line in file if not line.startswith("#"))
-    columns = {"put and take": "rattle.{}.pair", "refused put": "rattle.{}.refused-put", "refused take": "rattle.{}.refused-take", "look": "rattle.{}.look"}
+        counts = dict(line.split()[:2] for line in file if not line.startswith("#"))
+    columns = {"push and pop": "rattle.{}.pair", "refused push": "rattle.{}.refused-put", "refused pop": "rattle.{}.refused-take", "look": "rattle.{}.look"}
     yield "| Container | " + " | ".join(columns) + " |\n|---|" + "---|" * len(columns) + "\n"
     for name, called in NAMES.items():
         yield f"| {called} | " + " | ".join(f"{float(counts[form.format(name)]):.0f}" for form in columns.values()) + " |\n"
 
 
 # The tables of figures.
-OF_SPEED = {"cases": cases, "sizes": sizes, "means": means, "others": others, "cases_from_rattle": cases_from_rattle}
+OF_SPEED = {"cases": cases, "sizes": sizes, "means": means, "means_by_capacity": means_by_capacity, "others": others}
 OF_CALLS = {"calls": calls}
-# From which languages the calls of a table are, if not from C++ alone.
-CALLERS = {"means": ("C++", "Rattle"), "others": ("C++", "Rattle"), "cases_from_rattle": ("Rattle",)}
 
 
-def table(name, make, about, rows):
+def table(make, about, rows):
     """A table, and under it the commit that was measured; without rows a sentence."""
     made = "".join(make(rows))
     has_rows = made.count("\n") > 2
-    at_commit = kept.at_commit(about, *CALLERS.get(name, ("C++",)))
-    yield f"{made}\nMeasured {at_commit}.\n" if has_rows else "Not measured yet.\n"
+    yield f"{made}\nMeasured {kept.at_commit(about)}.\n" if has_rows else "Not measured yet.\n"
+
+
+def array_queue(_):
+    """The array queue, which nothing measures anew."""
+    about, rows = kept.read(kept.ARRAY_QUEUE)
+    yield from case_rows(rows, FROM_RATTLE)
+    yield f"\nMeasured at commit `{about['commit']}`. No program of this tree calls it any more.\n"
 
 
 def of(about, speed, calls_made):
     """All tables of these figures, for bench/compare to print."""
     for tables, rows in ((OF_SPEED, speed), (OF_CALLS, calls_made)):
         for name, make in tables.items():
-            yield f"{name}:\n\n" + "".join(table(name, make, about, rows))
+            yield f"{name}:\n\n" + "".join(table(make, about, rows))
 
 
 def machine(_):
@@ -173,14 +209,16 @@ def machine(_):
     yield f"The figures are of {about['machine']}, and {about['rounds']}.\n"
 
 
-def kept_table(name, make, path):
-    return lambda _: table(name, make, *kept.read(path))
+def kept_table(make, path):
+    return lambda _: table(make, *kept.read(path))
 
 
 TABLES = {
     "machine": machine,
     "instructions": instructions,
+    "lives": lives,
     "containers": lambda _: containers(kept.read(kept.SPEED)[1]),
-    **{name: kept_table(name, make, kept.SPEED) for name, make in OF_SPEED.items()},
-    **{name: kept_table(name, make, kept.CALLS) for name, make in OF_CALLS.items()},
+    "array_queue": array_queue,
+    **{name: kept_table(make, kept.SPEED) for name, make in OF_SPEED.items()},
+    **{name: kept_table(make, kept.CALLS) for name, make in OF_CALLS.items()},
 }

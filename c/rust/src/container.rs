@@ -200,7 +200,7 @@ macro_rules! container {
             /// assert_eq!(container.pop_wait(Duration::from_millis(2)), Err(PopError::Late));
             /// ```
             pub fn pop_wait(&self, stop: impl Stop) -> Result<T, PopError> {
-                pop_until(stop, || self.pop())
+                pop_until(stop, || (self.owner.core.is_spent(), self.pop()))
             }
 
             /// Closes it, so that no push follows; what it holds can be popped. Whether this call closed it.

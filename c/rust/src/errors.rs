@@ -102,7 +102,8 @@ pub enum PopError {
     Closed,
     /// The container was shut: it gives no value any more.
     Shut,
-    /// A tag is at its limit: the container gives no value any more. See [`Pass::wear`](crate::Pass::wear).
+    /// A tag is at its limit. A stack: it gives no value any more. A pop of a queue or a ring that waits: it is empty, and a
+    /// push was refused as spent, so nothing comes any more. See [`Pass::wear`](crate::Pass::wear).
     Spent,
     /// There was none until the [`Stop`](crate::Stop) ended the wait.
     Late,

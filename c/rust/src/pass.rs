@@ -172,7 +172,7 @@ impl<T, K> Pass<T, K> {
     /// assert_eq!(pass.pop_wait(None), Err(PopError::Closed));
     /// ```
     pub fn pop_wait(&mut self, stop: impl Stop) -> Result<T, PopError> {
-        pop_until(stop, || self.pop())
+        pop_until(stop, || (self.core.is_spent(), self.pop()))
     }
 
     /// Pops values one after another, until there is none: then it gives `None`, and may give values again later. What was

@@ -180,7 +180,7 @@ impl<T> Core<T> {
     }
 
     pub(crate) fn wear(&self, by: &mut Seat<T>) -> f64 {
-        if self.is_spent.load(Ordering::Relaxed) {
+        if self.is_spent() {
             return 1.0;
         }
         let life = match self.kind {
@@ -191,12 +191,17 @@ impl<T> Core<T> {
         (by.pass.gauge().used as f64 / life).min(1.0)
     }
 
+    /// Whether some push or pop was refused because the container is spent. Then no push that begins now succeeds.
+    pub(crate) fn is_spent(&self) -> bool {
+        self.is_spent.load(Ordering::Acquire)
+    }
+
     /// Keeps what a refusal says of the container.
     #[cold]
     pub(crate) fn note_refusal(&self, code: Code) {
         match code {
             Code::CLOSED => self.note_closed(),
-            Code::SPENT => self.is_spent.store(true, Ordering::Relaxed),
+            Code::SPENT => self.is_spent.store(true, Ordering::Release),
             _ => (),
         }
     }

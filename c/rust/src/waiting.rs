@@ -132,11 +132,14 @@ pub(crate) fn push_until<T>(
     }
 }
 
-/// Pops by `pop` until it is not refused as empty, or the stop ends the wait.
-pub(crate) fn pop_until<T>(stop: impl Stop, mut pop: impl FnMut() -> Result<T, PopError>) -> Result<T, PopError> {
+/// Pops by `pop` until it is not refused as empty, the stop ends the wait, or nothing can come: `pop` also says whether
+/// the container was known to be spent before it looked.
+pub(crate) fn pop_until<T>(stop: impl Stop, mut pop: impl FnMut() -> (bool, Result<T, PopError>)) -> Result<T, PopError> {
     let mut waiting = Waiting::until(stop);
     loop {
-        match pop() {
+        let (was_spent, answer) = pop();
+        match answer {
+            Err(PopError::Empty) if was_spent => return Err(PopError::Spent),
             Err(PopError::Empty) if waiting.go_on() => continue,
             Err(PopError::Empty) => return Err(PopError::Late),
             answer => return answer,

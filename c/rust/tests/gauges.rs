@@ -1,5 +1,5 @@
 //! What a container says of itself by a gauge: whether it is closed, and how far it is worn, exactly.
-use lockfree::{PushError, Queue, Ring, Stack};
+use lockfree::{PopError, PushError, Queue, Ring, Stack};
 
 const LIMIT: u64 = 1001;
 
@@ -58,4 +58,33 @@ fn closed_by_a_pass_that_is_gone() {
     });
     assert!(queue.is_closed() && of_queue.is_closed() && stack.is_closed() && of_stack.is_closed());
     assert!(ring.is_closed() && of_ring.is_closed());
+}
+
+/// A pop that waits ends once nothing can come, also if it waits already when the last push is refused.
+#[test]
+fn waits_end_on_a_spent_container() {
+    let queue = Queue::with_tag_limit(4, 8).unwrap();
+    let ring = Ring::with_lap_limit(4, 2, 2).unwrap();
+    std::thread::scope(|scope| {
+        let waits = scope.spawn(|| {
+            let mut count = 0;
+            while queue.pop_wait(None).is_ok() {
+                count += 1;
+            }
+            (count, queue.pop_wait(None), queue.pop())
+        });
+        let mut pushed = 0;
+        while !matches!(queue.push_wait(1, None), Err(PushError::Spent(_))) {
+            pushed += 1;
+        }
+        assert!(pushed >= 7);
+        assert_eq!(waits.join().unwrap(), (pushed, Err(PopError::Spent), Err(PopError::Empty)));
+    });
+    let mut pass = ring.pass().unwrap();
+    for _ in 0..2 {
+        while pass.push(1).is_ok() {}
+        while pass.pop().is_ok() {}
+    }
+    assert_eq!(pass.push(1), Err(PushError::Spent(1)));
+    assert_eq!(pass.pop_wait(None), Err(PopError::Spent));
 }

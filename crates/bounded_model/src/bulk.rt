@@ -49,7 +49,8 @@ pub trait Bulk<T>: Stepwise<T> {
     /// Puts values from the front of the range by one compare-and-swap, at least one. Their places
     /// are then `None`. Values stay in the range only if at some time of the call no cell could be
     /// had for the next one. A refusal leaves every place as it was. It is `Nothing` if the range
-    /// is empty, and otherwise a refusal of `put`, for the same reason. Called in `example_stack`.
+    /// is empty, and otherwise a refusal of `put`, for the same reason. Called in
+    /// `examples::stack`.
     fn put_range<R: Wait>(
         &self,
         rt: &R,
@@ -67,7 +68,7 @@ pub trait Bulk<T>: Stepwise<T> {
 
     /// Takes all values by one compare-and-swap, and folds them in the order in which takes would
     /// give them. Returns the last state. If the fold is refused, it takes nothing and returns the
-    /// state that was handed in. The refusals are those of `take`. Called in `example_buffers`.
+    /// state that was handed in. The refusals are those of `take`. Called in `examples::buffers`.
     fn fold_all_atomic<R: Wait, S, F: Fn(S, T) -> S + Drop>(
         &self,
         rt: &R,
@@ -86,7 +87,7 @@ pub trait Bulk<T>: Stepwise<T> {
             (Self.pass by) (Self.pass result.0) };
 
     /// Like `fold_all_atomic`, but folds the values in the opposite order. Called in
-    /// `example_stack`.
+    /// `examples::stack`.
     fn fold_all_atomic_reversed<R: Wait, S, F: Fn(S, T) -> S + Drop>(
         &self,
         rt: &R,

@@ -8,7 +8,7 @@ use crate::{Container, TakeRefused};
 use std::sync::Wait;
 
 /// Makes one take, and calls `f` once with the value if the take gave one. Returns the result of
-/// `f` with the take's number, or the take's refusal. Called in `example_stack`.
+/// `f` with the take's number, or the take's refusal. Called in `examples::stack`.
 pub fn consume_one<T, C: Container<T>, W: Wait, R, F: FnOnce(T) -> R + Drop>(
     c: &C,
     rt: &W,
@@ -31,7 +31,7 @@ pub fn consume_one<T, C: Container<T>, W: Wait, R, F: FnOnce(T) -> R + Drop>(
 }
 
 /// Takes one value after another until a take is refused, and folds them in the order of taking.
-/// Returns the last state and the refusal. Called in `example_closing`.
+/// Returns the last state and the refusal. Called in `examples::closing`.
 pub fn consume_all<T, C: Container<T>, W: Wait, S, F: Fn(S, T) -> S + Drop>(
     c: &C,
     rt: &W,

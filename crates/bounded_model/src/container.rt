@@ -49,7 +49,7 @@ pub trait Leaving<T> {
     ghost left: { Self → List T };
 
     /// The next value, or `None` if no value is left. After a `None` it gives no value again.
-    /// Called in `example_calls`.
+    /// Called in `examples::calls`.
     fn next(&mut self) -> Option<T>
         ensures { MatchOption result
             ((left self.old ≡ []) × (left self.new ≡ []))
@@ -113,8 +113,8 @@ pub trait Container<T>: Drop {
 
     /// Gives a new pass, which has seen what the root has. `None` exactly if the number of passes
     /// that are out is already the most that the container allows. A queue and a stack allow
-    /// [`MAX_PASSES`]. After a `None` nothing has changed. Called in `example_calls`, and for many
-    /// threads in `example_jobs`.
+    /// [`MAX_PASSES`]. After a `None` nothing has changed. Called in `examples::calls`, and for
+    /// many threads in `examples::jobs`.
     fn split(&self, parent: &mut Self::Root) -> Option<Self::Pass>
         requires { is_root self.now parent.old }
         ensures root { is_root self.now parent.new }
@@ -124,7 +124,7 @@ pub trait Container<T>: Drop {
             (λ p. is_pass self.now p
             × Splits (shape self.now) (root parent.old) (root parent.new) (pass p)) };
 
-    /// Puts one value. Called in `example_calls`, and again if it is full in `example_jobs`.
+    /// Puts one value. Called in `examples::calls`, and again if it is full in `examples::jobs`.
     ///
     /// - `Ok`: the value is put. This is the put's number.
     /// - `Full`: the container was open, and each cell held a value or was in a pass's hand.
@@ -143,8 +143,8 @@ pub trait Container<T>: Drop {
         ensures gives { PutGives (shape self.now) (pass by) value (pass result.0) result.1 }
         ensures answered { Answers (pass by) (pass result.0) (put_answered result.1) };
 
-    /// Takes one value. Called in `example_calls`, and until the container is closed in
-    /// `example_jobs`.
+    /// Takes one value. Called in `examples::calls`, and until the container is closed in
+    /// `examples::jobs`.
     ///
     /// - `Ok`: the value, and the take's number.
     /// - `Empty`: the container held no value, and it was neither closed nor shut.
@@ -158,7 +158,7 @@ pub trait Container<T>: Drop {
         ensures answered { Answers (pass by) (pass result.0) (TakeAnswered result.1) };
 
     /// Closes the container: no put follows. Returns true if this call closed it, and false if it
-    /// was closed already. Called in `example_closing`.
+    /// was closed already. Called in `examples::closing`.
     fn close<R: Wait>(&self, rt: &R, by: Self::Pass) -> (Self::Pass, bool)
         requires { is_pass self.now by }
         ensures of { is_pass self.now result.0 }
@@ -166,7 +166,7 @@ pub trait Container<T>: Drop {
         ensures answered { Answers (pass by) (pass result.0) (CloseAnswered result.1) };
 
     /// Shuts the container: no take follows, but puts may follow until it is closed. Returns true
-    /// if this call shut it, and false if it was shut already. Called in `example_stack`.
+    /// if this call shut it, and false if it was shut already. Called in `examples::stack`.
     fn shut<R: Wait>(&self, rt: &R, by: Self::Pass) -> (Self::Pass, bool)
         requires { is_pass self.now by }
         ensures of { is_pass self.now result.0 }
@@ -175,7 +175,7 @@ pub trait Container<T>: Drop {
 
     /// Lets the first pass see what the second has seen. True: the first pass has now seen what
     /// either pass had seen. False: the table has no seat for the meeting, and the first pass is as
-    /// it was. The second pass comes back as it was. Called in `example_stack`.
+    /// it was. The second pass comes back as it was. Called in `examples::stack`.
     fn meet(&self, first: &mut Self::Pass, second: Self::Pass) -> (Self::Pass, bool)
         requires first { is_pass self.now first.old }
         requires second { is_pass self.now second }
@@ -184,7 +184,7 @@ pub trait Container<T>: Drop {
         ensures gives { MeetGives (pass first.old) (pass second) (pass first.new) result.1 };
 
     /// Makes a note of what the pass has seen. `None` if the table has no seat for the note. The
-    /// pass is as it was. Called in `example_notes`.
+    /// pass is as it was. Called in `examples::notes`.
     fn note(&self, by: &mut Self::Pass) -> Option<Self::Note>
         requires { is_pass self.now by.old }
         ensures pass { is_pass self.now by.new × (pass by.new ≡ pass by.old) }
@@ -193,7 +193,7 @@ pub trait Container<T>: Drop {
     /// The pass has now seen at least what the note tells. So a caller can learn of an event in
     /// some other way, together with a note that was made after the event. If its pass heeds the
     /// note, no later call of the pass gives an answer that was right only before the event. Called
-    /// in `example_notes`.
+    /// in `examples::notes`.
     fn heed(&self, by: &mut Self::Pass, note: Self::Note)
         requires pass { is_pass self.now by.old }
         requires note { is_note self.now note }
@@ -201,14 +201,14 @@ pub trait Container<T>: Drop {
         ensures gives { Heeds (pass by.old) (told note) (pass by.new) };
 
     /// Takes a pass back: the root has now seen what the pass has. The root keeps the pass's own
-    /// events, its steps, and what its calls have answered. Called in `example_calls`.
+    /// events, its steps, and what its calls have answered. Called in `examples::calls`.
     fn join(&self, parent: &mut Self::Root, by: Self::Pass)
         requires root { is_root self.now parent.old }
         requires pass { is_pass self.now by }
         ensures root { is_root self.now parent.new }
         ensures gives { Joins (root parent.old) (pass by) (root parent.new) };
 
-    /// Ends the container, and gives the values that it still holds. Called in `example_calls`.
+    /// Ends the container, and gives the values that it still holds. Called in `examples::calls`.
     fn finish(self, parent: Self::Root) -> Self::Rest
         requires { is_root self parent }
         ensures { Leaves (shape self) (root parent) (Self.Rest.left result) };

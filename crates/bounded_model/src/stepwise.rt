@@ -100,8 +100,8 @@ pub trait Stepwise<T>: Container<T> {
         ensures answered { Answers (Self.pass by) (Self.pass result.0) (LookAnswered result.1) };
 }
 
-/// An operation that makes this call, and has made no step yet. Called in `example_steps` and in the
-/// tests of `container_tests`.
+/// An operation that makes this call, and has made no step yet. Called in `examples::steps` and in
+/// the tests of `container_tests`.
 #[inline(always)]
 pub fn begin<T, C: Stepwise<T>>(container: &C, by: C::Pass, command: Command<T>) -> C::Op
     requires { C.is_pass container.now by }

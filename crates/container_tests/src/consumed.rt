@@ -1,12 +1,10 @@
 //! How many takes a consuming call tries: no contract can say that none follows a refusal.
 
+use crate::made::{Made, with_room};
 use bounded_model::{Container, Order, PutRefused, TakeRefused, consume_all, consume_one};
-use ms_queue::Queue;
-use ring_queue::{RingLimits, RingQueue};
+use std::alloc::Global;
 use std::process::Abort;
 use std::sync::Wait;
-use tagged_index::{Limits, MAX_TAG};
-use treiber_stack::Stack;
 
 /// A container whose passes count the takes that they try.
 #[derive(Drop)]
@@ -130,21 +128,15 @@ impl<T, C: Container<T>> Container<T> for Counting<C> {
 
 /// Each value costs one take, and each refusal one more: by an empty container, by a closed one,
 /// and by one that is shut.
-fn tries_no_take_after_a_refusal<C: Container<u32>, R: Abort + Wait>(
-    rt: &R,
-    inner: C,
-    root: C::Root,
-)
-    requires { C.is_root inner root }
-{
+pub(crate) fn no_take_follows_a_refusal<C: Made<u64>, R: Abort + Wait>(rt: &R, alloc: Global) {
+    let (inner, mut root) = with_room::<u64, C, R>(rt, alloc, 3);
     let container = Counting { inner };
-    let mut root = root;
     let pass = container.split(&mut root).expect(rt, "a pass");
     let (pass, _) = container.put(rt, pass, 1);
     let (pass, _) = container.put(rt, pass, 1);
     let (pass, _) = container.put(rt, pass, 1);
-    let double = |value: u32| value.wrapping_mul(2);
-    let sum = |state: u32, value: u32| state.wrapping_add(value);
+    let double = |value: u64| value.wrapping_mul(2);
+    let sum = |state: u64, value: u64| state.wrapping_add(value);
     let (pass, doubled) = consume_one(&container, rt, pass, double);
     assert!(rt; doubled.is_ok());
     assert_eq!(rt; pass.takes, 1);
@@ -160,25 +152,4 @@ fn tries_no_take_after_a_refusal<C: Container<u32>, R: Abort + Wait>(
     assert_eq!(rt; (folded, why, pass.takes), (0, TakeRefused::Shut, 7));
     let (pass, nothing) = consume_one(&container, rt, pass, double);
     assert_eq!(rt; (nothing, pass.takes), (Err(TakeRefused::Shut), 8));
-}
-
-#[test]
-fn no_take_follows_a_refusal_by_a_stack(rt: HostRuntime) {
-    let limits = Limits::of(3, MAX_TAG).expect(&rt, "limits");
-    let (stack, root) = Stack::<u32>::new(rt.alloc(), limits).expect(&rt, "memory");
-    tries_no_take_after_a_refusal(&rt, stack, root);
-}
-
-#[test]
-fn no_take_follows_a_refusal_by_a_queue(rt: HostRuntime) {
-    let limits = Limits::of(3, MAX_TAG).expect(&rt, "limits");
-    let (queue, root) = Queue::<u32>::new(rt.alloc(), limits).expect(&rt, "memory");
-    tries_no_take_after_a_refusal(&rt, queue, root);
-}
-
-#[test]
-fn no_take_follows_a_refusal_by_a_ring(rt: HostRuntime) {
-    let limits = RingLimits::of(3, 9, 2).expect(&rt, "limits");
-    let (ring, root) = RingQueue::<u32>::new(rt.alloc(), limits).expect(&rt, "memory");
-    tries_no_take_after_a_refusal(&rt, ring, root);
 }

@@ -73,17 +73,17 @@ fn in_and_out<C: Made<Arc<u8>>, R: Abort + Wait>(rt: &R, alloc: Global, dice: &m
     assert_eq!(rt; Arc::strong_count(value), 1);
 }
 
-/// Does this a hundred times, for numbers that the dice give: of values, and of those that stay.
-pub(crate) fn each_value_once<C: Made<Arc<u8>>, R: Abort + Wait>(rt: &R, alloc: Global) {
+// Does this a hundred times, for numbers that the dice give: of values, and of those that stay.
+fn each_value_once<C: Made<Arc<u8>>, R: Abort + Wait>(rt: &R, alloc: Global) {
     let mut dice = Dice::new();
     for _ in 0..100 {
         in_and_out::<C, R>(rt, alloc, &mut dice);
     }
 }
 
-/// A refused put hands its value back, and a take hands one out. Each is dropped where it is. The
-/// container has room for two.
-pub(crate) fn in_use<C: Made<Arc<u8>>, R: Abort + Wait>(rt: &R, alloc: Global) {
+// A refused put hands its value back, and a take hands one out. Each is dropped where it is. The
+// container has room for two.
+fn in_use<C: Made<Arc<u8>>, R: Abort + Wait>(rt: &R, alloc: Global) {
     let value = Arc::new(alloc, 7u8).expect(rt, "memory");
     let value = &value;
     let (container, mut root) = with_room::<Arc<u8>, C, R>(rt, alloc, 2);
@@ -102,8 +102,8 @@ pub(crate) fn in_use<C: Made<Arc<u8>>, R: Abort + Wait>(rt: &R, alloc: Global) {
     assert_eq!(rt; Arc::strong_count(value), 1);
 }
 
-/// Reads one of three values that are left. The other two are dropped with the rest.
-pub(crate) fn half_read<C: Made<Arc<u8>>, R: Abort + Wait>(rt: &R, alloc: Global) {
+// Reads one of three values that are left. The other two are dropped with the rest.
+fn half_read<C: Made<Arc<u8>>, R: Abort + Wait>(rt: &R, alloc: Global) {
     let value = Arc::new(alloc, 7u8).expect(rt, "memory");
     let value = &value;
     let (container, mut root) = with_room::<Arc<u8>, C, R>(rt, alloc, 3);
@@ -118,4 +118,11 @@ pub(crate) fn half_read<C: Made<Arc<u8>>, R: Abort + Wait>(rt: &R, alloc: Global
     assert_eq!(rt; Arc::strong_count(value), 3);
     drop(rest);
     assert_eq!(rt; Arc::strong_count(value), 1);
+}
+
+/// Values that were taken, that are in use, and that are left.
+pub(crate) fn values_are_dropped_once<C: Made<Arc<u8>>, R: Abort + Wait>(rt: &R, alloc: Global) {
+    each_value_once::<C, R>(rt, alloc);
+    in_use::<C, R>(rt, alloc);
+    half_read::<C, R>(rt, alloc);
 }

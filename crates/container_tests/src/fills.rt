@@ -11,12 +11,12 @@ use std::process::Abort;
 use std::sync::Wait;
 use std::thread::Threads;
 
-/// Threads that put and threads that take, and how many values each putting thread puts.
+// Threads that put and threads that take, and how many values each putting thread puts.
 #[derive(Clone, Copy)]
-pub(crate) struct Crowd {
-    pub(crate) producers: u32,
-    pub(crate) consumers: u32,
-    pub(crate) each: u64,
+struct Crowd {
+    producers: u32,
+    consumers: u32,
+    each: u64,
 }
 
 // `count` passes.
@@ -39,8 +39,8 @@ fn passes<C: Container<u64>, R: Abort>(
     all
 }
 
-/// One value in and out, twice, through a container with room for one.
-pub(crate) fn one_value_at_a_time<C: Made<u64>, R: Abort + Wait>(rt: &R, alloc: Global) {
+// One value in and out, twice, through a container with room for one.
+fn one_value_at_a_time<C: Made<u64>, R: Abort + Wait>(rt: &R, alloc: Global) {
     let (container, mut root) = with_room::<u64, C, R>(rt, alloc, 1);
     let pass = container.split(&mut root).expect(rt, "a pass");
     let (pass, put) = container.put(rt, pass, 7);
@@ -90,13 +90,9 @@ fn empty<C: Container<u64>, R: Abort + Wait>(rt: &R, container: &C, by: C::Pass)
     pass
 }
 
-/// A container takes exactly the number of values that it has room for, and has that room again
-/// when they are out.
-pub(crate) fn room_for_its_capacity<C: Made<u64>, R: Abort + Wait>(
-    rt: &R,
-    alloc: Global,
-    capacity: u32,
-) {
+// A container takes exactly the number of values that it has room for, and has that room again when
+// they are out.
+fn room_for_its_capacity<C: Made<u64>, R: Abort + Wait>(rt: &R, alloc: Global, capacity: u32) {
     let (container, mut root) = with_room::<u64, C, R>(rt, alloc, capacity);
     let pass = container.split(&mut root).expect(rt, "a pass");
     let pass = fill(rt, &container, pass);
@@ -105,9 +101,9 @@ pub(crate) fn room_for_its_capacity<C: Made<u64>, R: Abort + Wait>(
     let _ = empty(rt, &container, pass);
 }
 
-/// Of 1, 2 and 3 one is consumed and then the two that are left. Answers twice the first with its
-/// number, and the digits of these two.
-pub(crate) fn consumed<C: Made<u64>, R: Abort + Wait>(rt: &R, alloc: Global) -> ((u64, u64), u64) {
+// Of 1, 2 and 3 one is consumed and then the two that are left. Answers twice the first with its
+// number, and the digits of these two.
+fn consumed<C: Made<u64>, R: Abort + Wait>(rt: &R, alloc: Global) -> ((u64, u64), u64) {
     let (container, mut root) = with_room::<u64, C, R>(rt, alloc, 3);
     let pass = container.split(&mut root).expect(rt, "a pass");
     let (pass, _) = container.put(rt, pass, 1);
@@ -120,10 +116,10 @@ pub(crate) fn consumed<C: Made<u64>, R: Abort + Wait>(rt: &R, alloc: Global) -> 
     (doubled.ok().expect(rt, "a value to take"), folded)
 }
 
-/// Producers and consumers at once. Each value comes out once, and the calls are numbered without a
-/// gap. In the order of their numbers they are those of a container of one thread. Each producer's
-/// values are put in its order.
-pub(crate) fn each_value_once<C: Made<u64> + Sync, R: Abort + Threads + Wait + Sync>(
+// Producers and consumers at once. Each value comes out once, and the calls are numbered without a
+// gap. In the order of their numbers they are those of a container of one thread. Each producer's
+// values are put in its order.
+fn each_value_once<C: Made<u64> + Sync, R: Abort + Threads + Wait + Sync>(
     rt: &R,
     alloc: Global,
     capacity: u32,
@@ -156,8 +152,8 @@ pub(crate) fn each_value_once<C: Made<u64> + Sync, R: Abort + Threads + Wait + S
     }
 }
 
-/// Threads that each put and take in turn: no take is refused.
-pub(crate) fn own_puts_suffice<C: Made<u64> + Sync, R: Abort + Threads + Wait + Sync>(
+// Threads that each put and take in turn: no take is refused.
+fn own_puts_suffice<C: Made<u64> + Sync, R: Abort + Threads + Wait + Sync>(
     rt: &R,
     alloc: Global,
     capacity: u32,
@@ -169,4 +165,46 @@ pub(crate) fn own_puts_suffice<C: Made<u64> + Sync, R: Abort + Threads + Wait + 
     let passes = passes(rt, alloc, &container, &mut root, threads);
     assert!(rt; take_after_own_put(rt, &container, passes, times, &log));
     assert!(rt; log.is_sound());
+}
+
+// Numbers by one thread: one at a time, up to the capacity, and consumed in order.
+fn numbers_go_through_one_thread<C: Made<u64>, R: Abort + Wait>(rt: &R, alloc: Global) {
+    one_value_at_a_time::<C, R>(rt, alloc);
+    for capacity in 1..10 {
+        room_for_its_capacity::<C, R>(rt, alloc, capacity);
+    }
+    let wanted = match C::ORDER {
+        Order::Fifo => ((2, 0), 23),
+        Order::Lifo => ((6, 3), 21),
+    };
+    assert!(rt; consumed::<C, R>(rt, alloc) == wanted);
+}
+
+// Threads that put and threads that take, how many values each putting thread puts, and the room.
+const CROWDS: [(u32, u32, u64, u32); 6] = [
+    (1, 1, 20_000, 1),
+    (1, 1, 20_000, 3),
+    (2, 2, 20_000, 8),
+    (4, 4, 5_000, 1),
+    (4, 4, 5_000, 3),
+    (4, 4, 5_000, 64),
+];
+
+/// Numbers by one thread, and by many at once.
+pub(crate) fn numbers_go_through<C: Made<u64> + Sync, R: Abort + Threads + Wait + Sync>(
+    rt: &R,
+    alloc: Global,
+) {
+    numbers_go_through_one_thread::<C, R>(rt, alloc);
+    for (producers, consumers, each, capacity) in CROWDS {
+        let crowd = Crowd {
+            producers,
+            consumers,
+            each,
+        };
+        each_value_once::<C, R>(rt, alloc, capacity, crowd);
+    }
+    for capacity in 1..=4 {
+        own_puts_suffice::<C, R>(rt, alloc, capacity, 4, 5_000);
+    }
 }

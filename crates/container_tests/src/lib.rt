@@ -1,23 +1,19 @@
 //! Tests of any container, run over each:
 //! - what a value must go through as in the test suites of crossbeam-queue's `ArrayQueue` and of
 //!   Boost.Lockfree, in our own words;
-//! - how many steps a put and a take make;
-//! - what becomes of the values of a call that is dropped between two steps.
+//! - how many steps each call makes;
+//! - what becomes of the values of a call that is dropped between two steps;
+//! - how many takes a consuming call tries, which a container made for it counts;
+//! - the calls that wait: that they try again and wait for another thread, what a stop hands back,
+//!   and passes for many.
 //!
-//! Tests of code that knows a container by its traits alone:
-//! - ranges and folds, run over the stack;
-//! - calls made by single steps, run over the stack and the ring;
-//! - the carry of items from one pass to another (`one_way`), run over each.
-//!
-//! A container made for it counts how many takes a consuming call tries.
+//! Ranges and folds are run over the stack.
 #![tactic(auto)]
 
 #[cfg(test)]
+mod alone;
+#[cfg(test)]
 mod at_once;
-#[cfg(test)]
-mod by_steps;
-#[cfg(test)]
-mod carried;
 #[cfg(test)]
 mod consumed;
 #[cfg(test)]
@@ -33,4 +29,12 @@ mod log;
 #[cfg(test)]
 mod made;
 #[cfg(test)]
+mod passes;
+#[cfg(test)]
 mod steps;
+#[cfg(test)]
+mod together;
+#[cfg(test)]
+mod tries;
+#[cfg(test)]
+mod waits;

@@ -2,6 +2,8 @@ pub mod AsBox
 pub mod New
 pub mod Stays
 pub mod Shared
+pub mod Runs
+pub mod Refusals
 pub mod Works
 pub mod Ranges
 pub mod Splitting

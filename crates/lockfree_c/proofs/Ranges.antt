@@ -1,7 +1,7 @@
 -- A put of a range that has made no step has no node, so it has made its steps since its pass began it.
 use Rattle.std.proofs.lemmas.Bool.{false≢true}
-use Rattle.std.proofs.Common.{◌≡◌, ℕ, zero, suc, Bool, true, false, List, [], ◌∷◌, ◌++◌, map, length, refl, sym, ap, ◌∙◌, subst, length-append, arith}
-use Rattle.std.specs.Prelude.{Option as Slot, Some, Result, Ok, Err}
+use Rattle.std.proofs.Common.{◌≡◌, ℕ, zero, suc, Bool, true, false, List, [], ◌∷◌, ◌++◌, length, refl, sym, ap, ◌∙◌, subst, length-append, arith}
+use Rattle.std.specs.Prelude.{Option as Slot, Result, Ok, Err}
 use Rattle.bounded_model.specs.declared.answers.Stepped.TheVariants as stepped
 use Rattle.bounded_model.specs.declared.bulk.Ranged.{Ranged}
 use Rattle.bounded_model.specs.declared.bulk.RangeRefused.{RangeRefused}
@@ -24,8 +24,7 @@ use Rattle.stack_machine.specs.declared.lines.Taking.TheVariants.{One, Whole}
 use Rattle.stack_table.specs.Lines.{call_of}
 use Rattle.stack_table.specs.declared.operation.Operation.{Operation}
 use Rattle.treiber_stack.specs.Giving.{give_line}
-use Rattle.treiber_stack.specs.Ran.{IsRange}
-use Rattle.treiber_stack.specs.Ranging.{IsRangeAt, places_from, refused}
+use Rattle.treiber_stack.specs.Ranging.{IsRangeAt, refused}
 use Rattle.treiber_stack.specs.RangeTrying.{IsRangeOp, MadeWith, RangeOp, RangeSteps, gives_back, left_at, left_by}
 use Rattle.treiber_stack.specs.Refusing.{barring}
 use Rattle.treiber_stack.specs.Stack.{IsAt, begun_of, pass_in, shape_of}
@@ -38,7 +37,7 @@ use Rattle.treiber_stack.specs.declared.call_parts.refusing.Barred.{Barred}
 use Rattle.treiber_stack.specs.declared.call_parts.refusing.Barred.TheVariants.{Closed, Spent}
 use Rattle.treiber_stack.specs.declared.life.stack.Stack.{Stack}
 use Rattle.lockfree_c.specs.Stacks.{RangeTook, RangeTookFrom, RangeWentOn, RangeWorkedAtMost, StackMade}
-use Rattle.lockfree_c.specs.declared.calls.stack.StackWork.TheVariants.{RangePut, Copy}
+use Rattle.lockfree_c.specs.declared.calls.stack.StackWork.TheVariants.{Copy}
 use Rattle.lockfree_c.specs.declared.work.Said.TheVariants as said
 use Rattle.lockfree_c.specs.declared.work.Worked.TheVariants.{Again, Done}
 
@@ -81,17 +80,6 @@ module _ (c : Stack ℕ) (o : Operation ℕ) (p : Pass ℕ (Line ℕ)) (no_step 
   not_back held (GiveBack why at) is = absurd (not_on_way why at _ is.line)
   not_back held at is = refl
 
--- a place that is first and has its value
-abbrev has_first : List (Slot ℕ) → Bool
-has_first (Some v ∷ places) = true
-has_first places = false
-
--- all values are in their places, so none has left
-pub all_there : (o : Operation ℕ) (k : ℕ) (vs : List ℕ) → IsRange o vs → map Some vs ≡ places_from k vs → k ≡ 0
-all_there o zero vs is e = refl
-all_there o (suc k) [] is e = absurd is
-all_there o (suc k) (v ∷ vs) is e = absurd (false≢true (sym (ap has_first e)))
-
 module _ (c : Stack ℕ) (vs : List ℕ) (op : RangeOp ℕ) (is : IsRangeOp c vs op) (v : PassView ℕ) (begun : begun_of c op.pass ≡ v) (now : pass_now op.pass ≡ v) where
   -- a put that was begun, and has made no step
   on_its_way : gives_back op.at.at ≡ false
@@ -114,7 +102,6 @@ module _ (c : Stack ℕ) (vs : List ℕ) (op : RangeOp ℕ) (is : IsRangeOp c vs
 
     -- it was tried, and has made its steps since then
     pub took_from : (made : StackMade) → RangeTook n op made → RangeTookFrom n v made
-    took_from (Again (RangePut next places)) took = went_on next took
     took_from (Again (Copy next)) took = went_on next took
     took_from (Done back (said.Range (Ok put))) took =
         let none = no_node in

@@ -1,12 +1,10 @@
 -- A stack's work that was tried is under way, or its pass is back.
-use Rattle.std.proofs.Common.{sym, subst}
-use Rattle.std.specs.Prelude.{ℕ, List, [], ◌∷◌, ◌++◌, Option}
+use Rattle.std.specs.Prelude.{ℕ, List, [], ◌∷◌, ◌++◌}
 use Rattle.bounded_model.specs.declared.views.PassView.{PassView}
 use Rattle.index_list.specs.declared.front.Front.{Front}
-use Rattle.treiber_stack.specs.RangeTrying.{IsRanging}
 use Rattle.lockfree_c.specs.Calls.{IsWorked}
-use Rattle.lockfree_c.specs.Stacks.{FoldTried, RangeTried, Stack, StackMade, stack_reading}
-use Rattle.lockfree_c.specs.declared.calls.stack.StackWork.TheVariants.{Fold, RangePut}
+use Rattle.lockfree_c.specs.Stacks.{FoldTried, Stack, StackMade, stack_reading}
+use Rattle.lockfree_c.specs.declared.calls.stack.StackWork.TheVariants.{Fold}
 use Rattle.lockfree_c.specs.declared.work.Said.TheVariants as said
 use Rattle.lockfree_c.specs.declared.work.Worked.TheVariants.{Again, Value, Done}
 
@@ -16,8 +14,3 @@ module _ (c : Stack) (values : List ℕ) (begun : PassView ℕ) where
   fold_worked front (Value x (Fold next)) tried = (front, values ++ x ∷ [], tried.0)
   fold_worked front (Done back (said.Fold answer)) tried = tried.0
   fold_worked front made tried = absurd tried
-
-  pub range_worked : (left : List (Option ℕ)) (made : StackMade) → RangeTried c values begun left made → IsWorked (stack_reading c) made
-  range_worked left (Again (RangePut next places)) tried = (values, subst (λ ps. IsRanging c values ps next) (sym tried.0) tried.1.0)
-  range_worked left (Done back (said.Range answer)) tried = tried.0
-  range_worked left made tried = absurd tried

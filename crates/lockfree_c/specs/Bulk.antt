@@ -1,16 +1,15 @@
 -- What folds and ranges do to a stack's pass.
-use Rattle.std.specs.Prelude.{◌≡◌, ◌⊎◌, ◌++◌, ◌∷◌, ℕ, List, [], map, Bool, true, false, Option, Some, MatchOption}
+use Rattle.std.specs.Prelude.{ℕ, List, Bool, true, false}
 use Rattle.index_list.specs.declared.front.Front.{Front}
 use Rattle.index_list.specs.declared.front.Front.TheVariants.{First, Last}
 use Rattle.treiber_stack.specs.Copying.{IsCopying}
 use Rattle.treiber_stack.specs.Stack as stack
 use Rattle.treiber_stack.specs.Stepwise.{AnyOp}
-use Rattle.lockfree_c.specs.Passes.{PassBegan, PassKept, PassWorks}
-use Rattle.lockfree_c.specs.Stacks.{Copied, CopiedOn, Folded, RangePutBy, Stack, stack_reading}
+use Rattle.lockfree_c.specs.Passes.{PassBegan, PassWorks}
+use Rattle.lockfree_c.specs.Stacks.{Copied, CopiedOn, Folded, Stack, stack_reading}
 use Rattle.lockfree_c.specs.declared.answers.Answer.{Answer}
-use Rattle.lockfree_c.specs.declared.answers.TheConstants.{OK, EMPTY, NO_MEMORY, UNDER_WAY}
 use Rattle.lockfree_c.specs.declared.calls.stack.StackWork.{StackWork}
-use Rattle.lockfree_c.specs.declared.calls.stack.StackWork.TheVariants.{Range, Copy}
+use Rattle.lockfree_c.specs.declared.calls.stack.StackWork.TheVariants.{Copy}
 use Rattle.lockfree_c.specs.declared.pass.PassOf.{PassOf}
 use Rattle.lockfree_c.specs.declared.work.UnderWay.{UnderWay}
 use Rattle.lockfree_c.specs.declared.work.UnderWay.TheVariants.{Work}
@@ -28,41 +27,6 @@ front_from false = First
 
 abbrev pub PassFolded : ℕ → StackPass → Front → StackPass → Answer → Type 0
 PassFolded tries p front q a = PassBegan stack_reading (Folded p.container.value tries front) p q a
-
--- A range, value by value
-
--- a pass collects a range, with these places
-abbrev pub Collects : StackUnderWay → stack.Pass ℕ → List (Option ℕ) → Type 0
-Collects (Work (Range of held)) by places = (of ≡ by) × (held.items ≡ places)
-Collects u by places = ⊥
-
--- it collects this range now
-abbrev pub NowCollects : StackPass → StackPass → stack.Pass ℕ → List (Option ℕ) → Type 0
-NowCollects p q by places = (q.container.value ≡ p.container.value) × Collects q.stage.under_way by places
-
--- a pass that rests begins a range with this value; without memory, or in a call, it is as it was
-abbrev pub RangeBegan : StackPass → ℕ → StackPass → ℕ → Type 0
-RangeBegan p x q code = MatchOption p.stage.resting
-    ((code ≡ UNDER_WAY) × (q ≡ p))
-    (λ by. ((code ≡ OK) × NowCollects p q by (Some x ∷ [])) ⊎ ((code ≡ NO_MEMORY) × (q ≡ p)))
-
--- a value was added at the end of the range that is collected, unless there was no memory for it; or it began one
-abbrev pub AddedTo : StackUnderWay → StackPass → ℕ → StackPass → ℕ → Type 0
-AddedTo (Work (Range by places)) p x q code = ((code ≡ OK) × NowCollects p q by (places.items ++ Some x ∷ []))
-    ⊎ ((code ≡ NO_MEMORY) × NowCollects p q by places.items)
-AddedTo u p x q code = RangeBegan p x q code
-
-abbrev pub PassAdded : StackPass → ℕ → StackPass → ℕ → Type 0
-PassAdded p x q code = AddedTo p.stage.under_way p x q code
-
--- the put of the values that were collected is tried, from what the pass had seen; C added no value, or the pass is in a call: nothing changes
-abbrev pub PutFrom : ℕ → StackUnderWay → StackPass → StackPass → Answer → Type 0
-PutFrom tries (Work (Range by places)) p q a = (values : List ℕ) × (places.items ≡ map Some values)
-    × PassWorks (RangePutBy p.container.value tries values (stack.pass_in by)) p q a
-PutFrom tries u p q a = MatchOption p.stage.resting (PassKept UNDER_WAY p q a) (λ by. PassKept EMPTY p q a)
-
-abbrev pub PassRangePut : ℕ → StackPass → StackPass → Answer → Type 0
-PassRangePut tries p q a = PutFrom tries p.stage.under_way p q a
 
 -- A range from an array of C's
 

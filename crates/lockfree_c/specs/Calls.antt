@@ -24,6 +24,9 @@ pub record Reading (R P O W : Type 0) : Type 1 where
   pub pass : P → PassView ℕ
   pub is_making : Command ℕ → O → Type 0
   pub making : O → Underway ℕ
+  -- A call that its pass began as this, and that gave the pass back with this reply, was one run of the machine: see `WasRun` in `running`. A ring's
+  -- refused put tells more there: see `RefusalTells`
+  pub ran : PassView ℕ → Command ℕ → P → Reply ℕ → Type 0
   pub at_once : Command ℕ → ℕ
   pub is_work : W → Type 0
   -- this number of tries of a work that is under way came to this
@@ -46,11 +49,11 @@ module _ {R P O W : Type 0} (r : Reading R P O W) where
     pub makes : r.is_making call op
     pub begun : r.making op ≡ no_step (r.pass by)
 
-  -- a call that its pass began as this was tried: it is still under way, begun as before, or it gave what the whole call gives
+  -- a call that its pass began as this was tried: it is still under way, begun as before, or it gave what the whole call gives, and was one run
   abbrev pub TriedFrom : PassView ℕ → Command ℕ → Stepped O P (Reply ℕ) → Type 0
   TriedFrom begun call made = MatchStepped made
       (λ next. r.is_making call next × ((r.making next).begun ≡ begun))
-      (λ back said. r.is_pass back × CallGives r.shape begun call (r.pass back) said)
+      (λ back said. r.is_pass back × CallGives r.shape begun call (r.pass back) said × r.ran begun call back said)
 
   -- the same for an operation, whichever call it makes
   abbrev pub Tried : O → Stepped O P (Reply ℕ) → Type 0

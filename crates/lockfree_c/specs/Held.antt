@@ -16,8 +16,7 @@ use Rattle.ring_queue.specs.Leaving as ring_left
 use Rattle.ring_queue.specs.Ring as ring
 use Rattle.ring_queue.specs.Stepwise as ring_op
 use Rattle.ring_queue.specs.declared.life.limits.TheConstants.{MIN_LAPS, MAX_LAPS}
-use Rattle.lockfree_c.specs.Bulk.{Continues, PassAdded, PassCopied, PassFolded, PassRangePut, StackPass}
-use Rattle.lockfree_c.specs.Calls.{steps_of}
+use Rattle.lockfree_c.specs.Bulk.{Continues, PassCopied, PassFolded, StackPass}
 use Rattle.lockfree_c.specs.Codes.{bare}
 use Rattle.lockfree_c.specs.Passes.{PassBegan, PassCalled, PassWentOn}
 use Rattle.lockfree_c.specs.Queues as queues
@@ -69,28 +68,18 @@ EachDoes OfQueue OfStack OfRing (Ring s) (Ring t) a = SideCalled OfRing s t a
 EachDoes OfQueue OfStack OfRing Nothing Nothing a = a ≡ bare OTHER_HANDLE
 EachDoes OfQueue OfStack OfRing h g a = ⊥
 
--- how many steps a number of tries of a call allows
-abbrev pub queue_steps : ℕ → ℕ
-queue_steps = steps_of 18 6
-
-abbrev pub stack_steps : ℕ → ℕ
-stack_steps = steps_of 10 3
-
-abbrev pub ring_steps : ℕ → ℕ
-ring_steps = steps_of 17 6
-
 -- with this number of tries
 abbrev pub HeldCalled : ℕ → Held → Command ℕ → Held → Answer → Type 0
 HeldCalled tries h call g a = EachDoes
-    (λ p. PassCalled queues.queue_reading (queue_steps tries) p call)
-    (λ p. PassCalled stacks.stack_reading (stack_steps tries) p call)
-    (λ p. PassCalled rings.ring_reading (ring_steps tries) p call) h g a
+    (λ p. PassCalled queues.queue_reading (queues.queue_steps tries) p call)
+    (λ p. PassCalled stacks.stack_reading (stacks.stack_steps tries) p call)
+    (λ p. PassCalled rings.ring_reading (rings.ring_steps tries) p call) h g a
 
 abbrev pub HeldWentOn : ℕ → Held → Held → Answer → Type 0
 HeldWentOn tries h g a = EachDoes
-    (PassWentOn queues.queue_reading tries (queue_steps tries))
-    (PassWentOn stacks.stack_reading tries (stack_steps tries))
-    (PassWentOn rings.ring_reading tries (ring_steps tries)) h g a
+    (PassWentOn queues.queue_reading tries (queues.queue_steps tries))
+    (PassWentOn stacks.stack_reading tries (stacks.stack_steps tries))
+    (PassWentOn rings.ring_reading tries (rings.ring_steps tries)) h g a
 
 abbrev pub HeldGauged : ℕ → Held → Held → Answer → Type 0
 HeldGauged tries h g a = EachDoes
@@ -122,14 +111,6 @@ StackDoes Does h g a = Declined h g a
 
 abbrev pub HeldFolded : ℕ → Held → Front → Held → Answer → Type 0
 HeldFolded tries h front g a = StackDoes (λ p q b. PassFolded tries p front q b) h g a
-
-abbrev pub HeldAdded : Held → ℕ → Held → ℕ → Type 0
-HeldAdded (Stack (Pass p)) x (Stack (Pass q)) code = PassAdded p x q code
-HeldAdded (Stack (Pass p)) x g code = ⊥
-HeldAdded h x g code = (code ≡ refusal_of h) × (g ≡ h)
-
-abbrev pub HeldRangePut : ℕ → Held → Held → Answer → Type 0
-HeldRangePut tries h g a = StackDoes (PassRangePut tries) h g a
 
 abbrev pub HeldCopied : ℕ → Held → List ℕ → Held → Answer → Type 0
 HeldCopied tries h values g a = StackDoes (λ p q b. PassCopied tries p values q b) h g a

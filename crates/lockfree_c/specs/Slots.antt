@@ -3,7 +3,7 @@ use Rattle.std.specs.Prelude.{◌≡◌, ℕ, Bool, true, false, List, Result, M
 use Rattle.bounded_model.specs.declared.commands.Command.{Command}
 use Rattle.index_list.specs.declared.front.Front.{Front}
 use Rattle.lockfree_c.specs.Codes.{bare}
-use Rattle.lockfree_c.specs.Held.{IsHeld, HeldAdded, HeldCalled, HeldContinues, HeldCopied, HeldCounted, HeldFinished, HeldFolded, HeldGauged, HeldNumber, HeldRangePut, HeldWentOn, HeldSplit, NewRefused}
+use Rattle.lockfree_c.specs.Held.{IsHeld, HeldCalled, HeldContinues, HeldCopied, HeldCounted, HeldFinished, HeldFolded, HeldGauged, HeldNumber, HeldWentOn, HeldSplit, NewRefused}
 use Rattle.lockfree_c.specs.declared.answers.Answer.{Answer}
 use Rattle.lockfree_c.specs.declared.answers.TheConstants.{OK, NO_HANDLE, IN_USE}
 use Rattle.lockfree_c.specs.declared.held.Held.{Held}
@@ -47,16 +47,6 @@ SlotGauged tries s t a = Either s.full
 abbrev pub SlotFolded : ℕ → Slot → Front → Slot → Answer → Type 0
 SlotFolded tries s front t a = Either s.full
     ((t.full ≡ true) × HeldFolded tries s.handle.held front t.handle.held a)
-    (IsEmpty t × (a ≡ bare NO_HANDLE))
-
-abbrev pub SlotAdded : Slot → ℕ → Slot → ℕ → Type 0
-SlotAdded s x t code = Either s.full
-    ((t.full ≡ true) × HeldAdded s.handle.held x t.handle.held code)
-    (IsEmpty t × (code ≡ NO_HANDLE))
-
-abbrev pub SlotRangePut : ℕ → Slot → Slot → Answer → Type 0
-SlotRangePut tries s t a = Either s.full
-    ((t.full ≡ true) × HeldRangePut tries s.handle.held t.handle.held a)
     (IsEmpty t × (a ≡ bare NO_HANDLE))
 
 -- a put of an array that is under way continues with that array

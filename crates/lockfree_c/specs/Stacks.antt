@@ -1,15 +1,21 @@
 -- How a stack is read, and what its works give.
-use Rattle.std.specs.Prelude.{◌≡◌, ℕ, ◌+◌, ◌*◌, List, [], length, false, Option, IsSome, Ok, Err}
-use Rattle.std.specs.List.{AllByRecursion as Every}
+use Rattle.std.specs.Prelude.{◌≡◌, ℕ, ◌+◌, ◌*◌, List, [], length, false, Ok, Err}
 use Rattle.bounded_model.specs.Laws.{Answers}
 use Rattle.bounded_model.specs.declared.answers.Stepped.TheVariants as stepped
 use Rattle.bounded_model.specs.declared.commands.Command.{Command}
 use Rattle.bounded_model.specs.declared.commands.Command.TheVariants.{Look, Put, Take}
+use Rattle.bounded_model.specs.declared.commands.Reply.{Reply}
 use Rattle.bounded_model.specs.declared.views.Answered.TheVariants as answered
 use Rattle.bounded_model.specs.declared.views.PassView.{PassView}
 use Rattle.index_list.specs.declared.front.Front.{Front}
+use Rattle.running.specs.Kept.{WasRun}
 use Rattle.running.specs.Passes as passes
+use Rattle.stack_machine.specs.Machine.{ends}
+use Rattle.stack_machine.specs.declared.lines.Answer.TheVariants.{Gauge as AnswerGauge}
+use Rattle.stack_machine.specs.declared.lines.Line.TheVariants.{LoadTopToGauge}
+use Rattle.treiber_stack.specs.Calls.{is_call}
 use Rattle.treiber_stack.specs.Copying as copying
+use Rattle.treiber_stack.specs.Every.{every_account}
 use Rattle.treiber_stack.specs.FoldOp as folding
 use Rattle.treiber_stack.specs.Gauging.{GaugeGives}
 use Rattle.treiber_stack.specs.RangeTrying as ranging
@@ -18,7 +24,7 @@ use Rattle.treiber_stack.specs.Stepwise.{AnyOp, IsMakingCall, making}
 use Rattle.treiber_stack.specs.declared.bulk.fold_op.FoldMade.TheVariants as fold
 use Rattle.lockfree_c.specs.Calls.{Reading, WorkedFor, steps_of}
 use Rattle.lockfree_c.specs.declared.calls.stack.StackWork.{StackWork}
-use Rattle.lockfree_c.specs.declared.calls.stack.StackWork.TheVariants.{Fold, Range, RangePut, Copy}
+use Rattle.lockfree_c.specs.declared.calls.stack.StackWork.TheVariants.{Fold, Copy}
 use Rattle.lockfree_c.specs.declared.work.Said.TheVariants as said
 use Rattle.lockfree_c.specs.declared.work.Worked.{Worked}
 use Rattle.lockfree_c.specs.declared.work.Worked.TheVariants.{Again, Value, Waits, Done}
@@ -32,13 +38,15 @@ StackMade = Worked StackWork (stack.Pass ℕ)
 -- the pass of a work, as it is now
 abbrev pub working : StackWork → PassView ℕ
 working (Fold op) = passes.pass_in op.pass
-working (Range by places) = stack.pass_in by
-working (RangePut op places) = passes.pass_in op.pass
 working (Copy op) = passes.pass_in op.pass
 
 -- a work whose pass was v has made at most n steps more
 abbrev pub WorkedAtMost : ℕ → PassView ℕ → StackMade → Type 0
 WorkedAtMost n v made = WorkedFor working stack.pass_in n v made
+
+-- how many steps a number of tries of a call allows
+abbrev pub stack_steps : ℕ → ℕ
+stack_steps = steps_of 10 3
 
 -- how many steps a number of tries of a fold and of a range allows
 abbrev pub bulk_steps : ℕ → ℕ
@@ -46,7 +54,6 @@ bulk_steps = steps_of 10 3
 
 -- the put of a range that was under way was tried for n steps a part
 abbrev pub RangeTook : ℕ → ranging.RangeOp ℕ → StackMade → Type 0
-RangeTook n op (Again (RangePut next places)) = ranging.RangeSteps n op (stepped.Again next)
 RangeTook n op (Again (Copy next)) = ranging.RangeSteps n op (stepped.Again next)
 RangeTook n op (Done back (said.Range answer)) = ranging.RangeSteps n op (stepped.Done back answer)
 RangeTook n op made = ⊥
@@ -58,7 +65,6 @@ RangeWentOn n v op = ranging.gives_back op.at.at ≡ false → ranging.MadeWith 
 
 -- the same of what it came to, if it is under way or was put
 abbrev pub RangeTookFrom : ℕ → PassView ℕ → StackMade → Type 0
-RangeTookFrom n v (Again (RangePut next places)) = RangeWentOn n v next
 RangeTookFrom n v (Again (Copy next)) = RangeWentOn n v next
 RangeTookFrom n v (Done back (said.Range (Ok put))) = ranging.MadeWith n put.count v (stack.pass_in back)
 RangeTookFrom n v (Done back (said.Range (Err why))) = Unit {0}
@@ -76,23 +82,18 @@ module _ (c : Stack) where
   FoldTried front values v (Done back (said.Fold answer)) = folding.FoldTried c front values v (fold.Done back answer)
   FoldTried front values v made = ⊥
 
-  -- a put of these values was tried, and left these places
-  abbrev pub RangeTried : List ℕ → PassView ℕ → List (Option ℕ) → StackMade → Type 0
-  RangeTried values v left (Again (RangePut next places)) = (places.items ≡ left) × ranging.RangeTried c values v left (stepped.Again next)
-  RangeTried values v left (Done back (said.Range answer)) = ranging.RangeTried c values v left (stepped.Done back answer)
-  RangeTried values v left made = ⊥
-
   -- a put of these values from an array was tried
   abbrev pub CopyTried : List ℕ → PassView ℕ → StackMade → Type 0
   CopyTried values v (Again (Copy next)) = copying.CopyTried c values v (stepped.Again next)
   CopyTried values v (Done back (said.Range answer)) = copying.CopyTried c values v (stepped.Done back answer)
   CopyTried values v made = ⊥
 
-  -- a gauge has shown how the stack was at one moment since its pass was v
+  -- a gauge has shown how the stack was at one moment since its pass was v: it was one step, the load of the top, of the pass `by`, which was v
   abbrev pub GaugeTried : PassView ℕ → StackMade → Type 0
   GaugeTried v (Done back (said.Gauge closed used)) = stack.IsPassOf c back
       × GaugeGives (stack.room_of c) (stack.limit_of c) v (stack.pass_in back) (record { closed = closed; used = used })
       × Answers v (stack.pass_in back) (answered.Gauge closed used)
+      × ((by : stack.Pass ℕ) × (stack.pass_in by ≡ v) × stack.OneLine c by.pass back.pass LoadTopToGauge (ends (AnswerGauge closed used)))
   GaugeTried v made = ⊥
 
   -- a gauge is one step, whatever the number of tries
@@ -103,11 +104,7 @@ module _ (c : Stack) where
   abbrev pub Folded : ℕ → Front → PassView ℕ → StackMade → Type 0
   Folded tries front v made = FoldTried front [] v made × WorkedAtMost (bulk_steps tries) v made
 
-  -- a put of a range, and one of an array, were begun and tried
-  abbrev pub RangePutBy : ℕ → List ℕ → PassView ℕ → StackMade → Type 0
-  RangePutBy tries values v made = ((left : List (Option ℕ)) × RangeTried values v left made) × RangeTookFrom (bulk_steps tries) v made
-      × RangeWorkedAtMost (bulk_steps tries) values v made
-
+  -- a put of an array was begun and tried
   abbrev pub Copied : ℕ → List ℕ → PassView ℕ → StackMade → Type 0
   Copied tries values v made = CopyTried values v made × RangeTookFrom (bulk_steps tries) v made
       × RangeWorkedAtMost (bulk_steps tries) values v made
@@ -117,24 +114,21 @@ module _ (c : Stack) where
   CopiedOn tries values op made = CopyTried values (stack.begun_of c op.pass) made × RangeTook (bulk_steps tries) op made
       × RangeWorkedAtMost (bulk_steps tries) values (passes.pass_in op.pass) made
 
-  -- a fold that has handed out some values, a range that has a value in each place, the put of one, or of an array
+  -- a fold that has handed out some values, or a put of an array
   abbrev pub IsStackWork : StackWork → Type 0
   IsStackWork (Fold op) = (front : Front) × (values : List ℕ) × folding.IsFolding c front values op
-  IsStackWork (Range by places) = stack.IsPassOf c by × Every (λ place. IsSome place) places.items
-  IsStackWork (RangePut op places) = (values : List ℕ) × ranging.IsRanging c values places.items op
   IsStackWork (Copy op) = (values : List ℕ) × copying.IsCopying c values op
 
-  -- it is tried further, from whichever end and whichever values it puts; a range that is collected waits for its put, and a put of an
-  -- array for its array
+  -- it is tried further, from whichever end; a put of an array waits for its array
   abbrev pub StackWorksOn : ℕ → StackWork → StackMade → Type 0
   StackWorksOn tries (Fold op) made = ((front : Front) (values : List ℕ) → folding.IsFolding c front values op → FoldTried front values (stack.begun_of c op.pass) made)
       × WorkedAtMost (bulk_steps tries) (passes.pass_in op.pass) made
-  StackWorksOn tries (RangePut op places) made = ((left : List (Option ℕ))
-      × ((values : List ℕ) → ranging.IsRanging c values places.items op → RangeTried values (stack.begun_of c op.pass) left made))
-      × RangeTook (bulk_steps tries) op made
-      × ((values : List ℕ) → ranging.IsRanging c values places.items op → RangeWorkedAtMost (bulk_steps tries) values (passes.pass_in op.pass) made)
-  StackWorksOn tries (Range by places) made = made ≡ Waits (Range by places)
   StackWorksOn tries (Copy op) made = made ≡ Waits (Copy op)
+
+-- A call was begun once, when its pass was as `begun`. The machine's steps of that pass since then led it to this reply, in one proper run whose
+-- history is what the pass has seen now
+abbrev pub StackRan : Stack → PassView ℕ → Command ℕ → stack.Pass ℕ → Reply ℕ → Type 0
+StackRan c begun call back said = WasRun (stack.machine_of c) (every_account c.table.shared.key) (is_call call) begun back said
 
 -- the most steps that each call makes at once
 abbrev pub stack_at_once : Command ℕ → ℕ
@@ -152,6 +146,7 @@ stack_reading c = record {
   pass = stack.pass_in;
   is_making = IsMakingCall c;
   making = making;
+  ran = StackRan c;
   at_once = stack_at_once;
   is_work = IsStackWork c;
   works_on = StackWorksOn c;

@@ -1,6 +1,6 @@
 //! What a call returns to C: a code, and with some codes a value. The pass keeps the call's number.
 ghost use Rattle.std.specs.Prelude.{◌≡◌};
-ghost use Rattle.lockfree_c.specs.Codes.{fold_number, number_in, range_number};
+ghost use Rattle.lockfree_c.specs.Codes.{number_in};
 
 use bounded_model::{Folded, PutRefused, RangeRefused, Ranged, Reply, TakeRefused};
 
@@ -11,7 +11,7 @@ pub const OK: u32 = 0;
 pub const FULL: u32 = 1;
 
 /// A take or a fold: there is no value, and more may come. A look: it was empty. A put of a range:
-/// C added no value. A finish: no value is left.
+/// the array has no value. A finish: no value is left.
 pub const EMPTY: u32 = 2;
 
 /// A put of a value or of a range: the container is closed. A take or a fold: it is closed, and
@@ -27,7 +27,7 @@ pub const SPENT: u32 = 5;
 /// The tries are used up, and the call is still under way.
 pub const BUSY: u32 = 6;
 
-/// The pass has a call under way already, or the values of a range.
+/// The pass has a call under way already.
 pub const UNDER_WAY: u32 = 7;
 
 /// The pass has no call under way.
@@ -177,27 +177,5 @@ pub fn number_of(said: &Reply<u64>) -> u64
         Reply::Put(Ok(number)) => *number,
         Reply::Take(Ok((_, number))) => *number,
         _ => 0,
-    }
-}
-
-/// The number of a whole fold that returned this, or 0.
-#[inline(always)]
-pub fn number_of_fold(said: &Result<Folded, TakeRefused>) -> u64
-    ensures { result ≡ fold_number said.now }
-{
-    match said {
-        Ok(folded) => folded.number,
-        Err(_) => 0,
-    }
-}
-
-/// The number of a whole put of a range that returned this, or 0.
-#[inline(always)]
-pub fn number_of_range(said: &Result<Ranged, RangeRefused>) -> u64
-    ensures { result ≡ range_number said.now }
-{
-    match said {
-        Ok(ranged) => ranged.number,
-        Err(_) => 0,
     }
 }

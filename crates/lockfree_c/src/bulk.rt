@@ -1,28 +1,18 @@
 //! Folds and ranges of a stack's pass. One compare-and-swap takes or puts all their values.
-ghost use Rattle.std.specs.Prelude.{◌≡◌, ℕ, List, [], Option, IsSome, map, Some};
-ghost use Rattle.std.specs.List.{AllByRecursion as Every};
+ghost use Rattle.std.specs.Prelude.{◌≡◌, []};
 ghost use Rattle.bounded_model.specs.Stepping.{no_step};
 ghost use Rattle.running.specs.Ops.{underway_of};
 ghost use Rattle.treiber_stack.specs.FoldOp.{IsFolding};
 ghost use Rattle.treiber_stack.specs.Stack.{IsPassOf, machine_of, pass_in};
-ghost use Rattle.lockfree_c.specs.Bulk.{
-  Continues,
-  PassAdded,
-  PassCopied,
-  PassFolded,
-  PassRangePut,
-  RangeBegan,
-  front_from,
-};
+ghost use Rattle.lockfree_c.specs.Bulk.{Continues, PassCopied, PassFolded, front_from};
 ghost use Rattle.lockfree_c.specs.Passes.{IsPass};
-ghost use Rattle.lockfree_c.specs.Stacks.{Copied, RangePutBy, stack_reading};
+ghost use Rattle.lockfree_c.specs.Stacks.{Copied, stack_reading};
 
-use crate::answers::{Answer, EMPTY, NO_MEMORY, OK, UNDER_WAY};
-use crate::calls::{StackWork, copy_on, fold_on, range_on};
+use crate::answers::{Answer, UNDER_WAY};
+use crate::calls::{StackWork, copy_on, fold_on};
 use crate::held::StackPass;
 use crate::work::{Said, UnderWay, Worked};
 use bounded_model::Stepped;
-use std::alloc::Global;
 use std::mem;
 use treiber_stack::{FoldOp, Pass, Stack};
 
@@ -55,24 +45,6 @@ fn copy(
     }
 }
 
-// A put of the values in these places, begun and tried.
-fn range(
-    stack: &Stack<u64>,
-    by: Pass<u64>,
-    values: Vec<Option<u64>>,
-    tries: u64,
-) -> Worked<StackWork, Pass<u64>>
-    requires by { IsPassOf stack.now by }
-    requires values { Every (λ place. IsSome place) values.items }
-    ensures { (vs : List ℕ) × (values.items ≡ map Some vs)
-        × RangePutBy stack.now tries vs (pass_in by) result }
-{
-    match stack.begin_range(by, &values) {
-        Stepped::Again(op) => range_on(stack, op, values, tries),
-        Stepped::Done(by, said) => Worked::Done(by, Said::Range(said)),
-    }
-}
-
 impl StackPass {
     /// Folds all values. If the pass is in a call already, nothing changes, and the code is
     /// `UNDER_WAY`.
@@ -88,72 +60,6 @@ impl StackPass {
                 self.stage.settle(made)
             }
             None => Answer::of(UNDER_WAY),
-        }
-    }
-
-    /// Adds a value to the range that the pass collects, or begins one with it. If there is no
-    /// memory, the code is `NO_MEMORY`. If the pass is in a call, it is `UNDER_WAY`.
-    pub fn add(&mut self, alloc: Global, value: u64) -> u32
-        requires { IsPass stack_reading self.old }
-        ensures of { IsPass stack_reading self.new }
-        ensures gives { PassAdded self.old value self.new result }
-    {
-        match mem::replace(&mut self.stage.under_way, UnderWay::Nothing) {
-            UnderWay::Work(StackWork::Range(by, values)) => {
-                let mut values = values;
-                let code = match values.push(Some(value)) {
-                    Ok(()) => OK,
-                    Err(_) => NO_MEMORY,
-                };
-                self.stage.under_way = UnderWay::Work(StackWork::Range(by, values));
-                code
-            }
-            other => {
-                self.stage.under_way = other;
-                self.begin_range(alloc, value)
-            }
-        }
-    }
-
-    // Begins a range with this value.
-    fn begin_range(&mut self, alloc: Global, value: u64) -> u32
-        requires { IsPass stack_reading self.old }
-        ensures of { IsPass stack_reading self.new }
-        ensures gives { RangeBegan self.old value self.new result }
-    {
-        let Some(by) = self.stage.resting.take() else {
-            return UNDER_WAY;
-        };
-        let mut values = Vec::new(alloc);
-        match values.push(Some(value)) {
-            Ok(()) => {
-                self.stage.under_way = UnderWay::Work(StackWork::Range(by, values));
-                OK
-            }
-            Err(_) => {
-                self.stage.resting = Some(by);
-                NO_MEMORY
-            }
-        }
-    }
-
-    /// Puts the values of the range that the pass collects. If it collects none, nothing changes,
-    /// and the code is `EMPTY`, or `UNDER_WAY` if it is in a call.
-    pub fn put_range(&mut self, tries: u64) -> Answer
-        requires { IsPass stack_reading self.old }
-        ensures of { IsPass stack_reading self.new }
-        ensures gives { PassRangePut tries self.old self.new result }
-    {
-        match mem::replace(&mut self.stage.under_way, UnderWay::Nothing) {
-            UnderWay::Nothing => Answer::of(EMPTY),
-            UnderWay::Work(StackWork::Range(by, values)) => {
-                let made = range(&self.container, by, values, tries);
-                self.stage.settle(made)
-            }
-            other => {
-                self.stage.under_way = other;
-                Answer::of(UNDER_WAY)
-            }
         }
     }
 

@@ -53,18 +53,10 @@ pub fn stack_operation_crosses(operation: &treiber_stack::AnyOp<u64>) {
     crosses(operation);
 }
 
-/// The parts of a work that a stack's pass is in: a fold, a put of a range or of an array, and a
-/// range that is collected.
-pub fn stack_work_crosses(
-    fold: &FoldOp<u64>,
-    range: &RangeOp<u64>,
-    by: &Pass<u64>,
-    values: &Vec<Option<u64>>,
-) {
+/// A work that a stack's pass is in: a fold or a put of an array.
+pub fn stack_work_crosses(fold: &FoldOp<u64>, copy: &RangeOp<u64>) {
     crosses(fold);
-    crosses(range);
-    crosses(by);
-    crosses(values);
+    crosses(copy);
 }
 
 /// What is left of a stack.

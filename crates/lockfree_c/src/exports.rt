@@ -11,7 +11,6 @@ ghost use Rattle.lockfree_c.specs.declared.exports.TheConstants.{VERSION};
 ghost use Rattle.lockfree_c.specs.Bulk.{front_from};
 ghost use Rattle.lockfree_c.specs.Slots.{
   IsSlot,
-  SlotAdded,
   SlotContinues,
   SlotCalled,
   SlotCopied,
@@ -21,7 +20,6 @@ ghost use Rattle.lockfree_c.specs.Slots.{
   SlotFreed,
   SlotGauged,
   SlotNumber,
-  SlotRangePut,
   SlotSplit,
   SlotWentOn,
 };
@@ -179,34 +177,6 @@ pub extern "C" fn lockfree_fold(pass: &mut Slot, reversed: bool, tries: u64) -> 
         return Answer::of(NO_HANDLE);
     }
     pass.handle.open_mut().fold(reversed, tries)
-}
-
-/// Adds a value to the range that a stack's pass collects. The first value begins the range. The
-/// pass makes no other call until `lockfree_range_put`.
-#[unsafe(no_mangle)]
-pub extern "C" fn lockfree_range_add(alloc: Global, pass: &mut Slot, value: u64) -> u32
-    requires { IsSlot pass.old }
-    ensures of { IsSlot pass.new }
-    ensures gives { SlotAdded pass.old value pass.new result }
-{
-    if !pass.full {
-        return NO_HANDLE;
-    }
-    pass.handle.open_mut().add(alloc, value)
-}
-
-/// Puts the values of the range by one compare-and-swap, from the first that was added, as far as
-/// it gets cells for them. It forgets the values that it does not put.
-#[unsafe(no_mangle)]
-pub extern "C" fn lockfree_range_put(pass: &mut Slot, tries: u64) -> Answer
-    requires { IsSlot pass.old }
-    ensures of { IsSlot pass.new }
-    ensures gives { SlotRangePut tries pass.old pass.new result }
-{
-    if !pass.full {
-        return Answer::of(NO_HANDLE);
-    }
-    pass.handle.open_mut().put_range(tries)
 }
 
 /// Puts the values of an array onto a stack by one compare-and-swap, from the first, as far as it

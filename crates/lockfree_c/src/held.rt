@@ -3,7 +3,6 @@ ghost use Rattle.std.specs.Prelude.{◌≡◌, Ok, Err, IfOk, MatchResult};
 ghost use Rattle.bounded_model.specs.declared.commands.Command.TheVariants.{Look, Put, Take};
 ghost use Rattle.lockfree_c.specs.Bulk.{front_from};
 ghost use Rattle.lockfree_c.specs.Held.{
-  HeldAdded,
   HeldContinues,
   HeldCalled,
   HeldCopied,
@@ -12,7 +11,6 @@ ghost use Rattle.lockfree_c.specs.Held.{
   HeldFolded,
   HeldGauged,
   HeldNumber,
-  HeldRangePut,
   HeldSplit,
   HeldWentOn,
   IsHeld,
@@ -21,6 +19,7 @@ ghost use Rattle.lockfree_c.specs.Held.{
 
 use crate::answers::{Answer, NO_MEMORY, OTHER_HANDLE};
 use crate::calls::{QueueWork, RingWork, StackWork};
+use crate::making::boxed;
 use crate::pass::PassOf;
 use crate::side::Side;
 use bounded_model::Command;
@@ -91,6 +90,15 @@ macro_rules! of_pass {
             }
         }
     };
+}
+
+// Puts this into the box.
+fn fill(room: Box<Held, Global>, held: Held) -> Box<Held, Global>
+    ensures { result.value ≡ held }
+{
+    let mut room = room;
+    Box::replace(&mut room, held);
+    room
 }
 
 impl Held {
@@ -196,30 +204,6 @@ impl Held {
         }
     }
 
-    /// A stack's pass adds a value to its range. Any other handle gives `refusal`.
-    pub fn add(&mut self, alloc: Global, value: u64) -> u32
-        requires { IsHeld self.old }
-        ensures of { IsHeld self.new }
-        ensures gives { HeldAdded self.old value self.new result }
-    {
-        match self {
-            Held::Stack(Side::Pass(pass)) => pass.add(alloc, value),
-            other => other.refusal(),
-        }
-    }
-
-    /// A stack's pass puts the range that it has collected. Any other handle gives `refusal`.
-    pub fn put_range(&mut self, tries: u64) -> Answer
-        requires { IsHeld self.old }
-        ensures of { IsHeld self.new }
-        ensures gives { HeldRangePut tries self.old self.new result }
-    {
-        match self {
-            Held::Stack(Side::Pass(pass)) => pass.put_range(tries),
-            other => Answer::of(other.refusal()),
-        }
-    }
-
     /// A stack's pass puts these values as a range, or continues their put. Any other handle gives
     /// `refusal`.
     pub fn put_copies(&mut self, values: &[u64], tries: u64) -> Answer
@@ -257,12 +241,14 @@ impl Held {
             (λ b. HeldSplit self.old self.new (Ok b.value) × IsHeld b.value)
             (λ code. HeldSplit self.old self.new (Err code)) }
     {
-        let Ok(room) = Box::new(alloc, Held::Nothing) else {
+        // The room first, because a pass that was split off could not be given back.
+        let Ok(room) = boxed(alloc, Held::Nothing) else {
             return Err(NO_MEMORY);
         };
-        let mut room = room;
-        Box::replace(&mut room, self.split()?);
-        Ok(room)
+        match self.split() {
+            Ok(held) => Ok(fill(room, held)),
+            Err(code) => Err(code),
+        }
     }
 
     // The same as `finish`, of a handle that is given up.

@@ -12,7 +12,7 @@ ghost use Rattle.lockfree_c.specs.Held.{
 ghost use Rattle.lockfree_c.specs.Roots.{IsNewRoot, IsRoot};
 
 use crate::answers::{BAD_CAPACITY, NO_MEMORY};
-use crate::calls::BoundedCalls;
+use crate::calls::Handled;
 use crate::held::Held;
 use crate::root::RootOf;
 use crate::side::Side;
@@ -24,11 +24,7 @@ use tagged_index::Limits;
 use treiber_stack::Stack;
 
 // A new container's root, with a share of the container.
-fn rooted<C: BoundedCalls>(
-    alloc: Global,
-    container: C,
-    root: C::Root,
-) -> Result<RootOf<C, C::Root>, u32>
+fn rooted<C: Handled>(alloc: Global, container: C, root: C::Root) -> Result<RootOf<C, C::Root>, u32>
     requires new { (C.reading container).is_root root × ((C.reading container).root root ≡ fresh) }
     ensures { MatchResult result
         (λ r. IsNewRoot C.reading (C.reading container).shape r)
@@ -40,8 +36,8 @@ fn rooted<C: BoundedCalls>(
     }
 }
 
-// The same in a box.
-fn boxed(alloc: Global, held: Held) -> Result<Box<Held, Global>, u32>
+/// This in a box.
+pub fn boxed(alloc: Global, held: Held) -> Result<Box<Held, Global>, u32>
     ensures { MatchResult result (λ b. b.value ≡ held) (λ code. code ≡ NO_MEMORY) }
 {
     match Box::new(alloc, held) {

@@ -4,7 +4,7 @@ ghost use Rattle.std.specs.Prelude.{◌≡◌, MatchResult};
 ghost use Rattle.lockfree_c.specs.Roots.{HandsOut, IsEnded, IsRoot, IsSplit};
 
 use crate::answers::{Answer, EMPTY, NO_MEMORY, NO_PASS, VALUE};
-use crate::calls::BoundedCalls;
+use crate::calls::Ends;
 use crate::pass::PassOf;
 use crate::stage::Stage;
 use bounded_model::Leaving;
@@ -28,7 +28,7 @@ pub fn hand_out<R: Leaving<u64>>(rest: &mut R) -> Answer
     }
 }
 
-impl<C: BoundedCalls> RootOf<C, C::Root> {
+impl<C: Ends> RootOf<C, C::Root> {
     /// A pass with a share of the container. The code is `NO_MEMORY` if there is no memory for the
     /// share, and `NO_PASS` if the largest number of passes is out.
     pub fn split(&mut self) -> Result<PassOf<C, C::Pass, C::Operation, C::Work>, u32>

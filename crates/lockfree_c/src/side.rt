@@ -3,7 +3,7 @@ ghost use Rattle.std.specs.Prelude.{IfOk};
 ghost use Rattle.lockfree_c.specs.Sides.{IsSide, SideFinished, SideSplit};
 
 use crate::answers::{Answer, OTHER_HANDLE, SHARED};
-use crate::calls::BoundedCalls;
+use crate::calls::Ends;
 use crate::pass::PassOf;
 use crate::root::{RootOf, hand_out};
 
@@ -17,7 +17,7 @@ pub enum Side<C, R, P, O, W, L> {
     Rest(L),
 }
 
-impl<C: BoundedCalls> Side<C, C::Root, C::Pass, C::Operation, C::Work, C::Rest> {
+impl<C: Ends> Side<C, C::Root, C::Pass, C::Operation, C::Work, C::Rest> {
     /// A root gives a pass. Any other side gives `OTHER_HANDLE`.
     pub fn split(
         &mut self,

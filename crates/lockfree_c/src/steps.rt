@@ -10,6 +10,27 @@ pub(crate) struct Steps {
     pub(crate) again: u64,
 }
 
+/// A queue's put, take, close, shut or look makes at most 18 steps if no other pass disturbs it. Six
+/// steps lead to its next compare-and-swap once one has failed.
+pub(crate) const QUEUE_CALL: Steps = Steps {
+    undisturbed: 18,
+    again: 6,
+};
+
+/// A stack's call makes at most ten steps if no other pass disturbs it. Three steps lead to its next
+/// compare-and-swap once one has failed.
+pub(crate) const STACK_CALL: Steps = Steps {
+    undisturbed: 10,
+    again: 3,
+};
+
+/// A ring's take makes at most 17 steps, if the hint lags as far as it can and has moved meanwhile.
+/// Six steps lead to its next compare-and-swap: the hint, four positions, and the exchange there.
+pub(crate) const RING_CALL: Steps = Steps {
+    undisturbed: 17,
+    again: 6,
+};
+
 /// A queue's count has four loads. It makes them again after a look that found a value taken.
 pub(crate) const QUEUE_COUNT: Steps = Steps {
     undisturbed: 4,

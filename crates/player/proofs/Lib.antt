@@ -1,4 +1,3 @@
-pub mod Crossing
 pub mod Folding
 pub mod Going
 pub mod Lines

@@ -16,7 +16,7 @@ use Rattle.script.specs.declared.line.Act.TheVariants.{Call, Begin, Step, Range,
 use Rattle.player.specs.declared.place.Begun.{Begun}
 use Rattle.player.specs.declared.place.Place.{Place}
 use Rattle.player.specs.declared.place.Place.TheVariants as place
-use Rattle.player.specs.Plays.{Meaning, Nobody, Resting, Acting, ActingTold, Acts, Does, World, Finds, FindsOther, JoinsAll, JoinsOne, MakesSteps, MeetTold, steps_since}
+use Rattle.player.specs.Plays.{Meaning, Nobody, Resting, Acting, ActingTold, Acts, Does, World, Finds, FindsOther, MakesSteps, MeetTold, steps_since}
 use Rattle.player.specs.Shows.{Holds, Reading, Shows, ShowsAll}
 
 -- an operation that was begun has made no step
@@ -161,10 +161,6 @@ module _ {R P O : Type 0} (r : Reading R P O) where
   shows_at (p ∷ places) (n ∷ names) zero place all within was = subst (λ (q : Place P O). Shows r q n) was all.0
   shows_at (p ∷ places) (n ∷ names) (suc i) place all within was = shows_at places names i place all.1 (omega (arith, within)) was
 
-  pub shows_first : (p : Place P O) (places : List (Place P O)) (names : List Meaning) → ShowsAll r (p ∷ places) names → (name : Meaning) × Shows r p name
-  shows_first p places [] all = absurd all
-  shows_first p places (n ∷ names) all = (n, all.0)
-
   pub shows_set : (places : List (Place P O)) (names : List Meaning) (i : ℕ) (place : Place P O) (name : Meaning) → ShowsAll r places names → Shows r place name → ShowsAll r (slice_set places i place) (slice_set names i name)
   shows_set [] [] i place name all one = tt
   shows_set [] (n ∷ names) i place name all one = absurd all
@@ -176,13 +172,3 @@ module _ {R P O : Type 0} (r : Reading R P O) where
   pub shows_none : (k : ℕ) → ShowsAll r (replicate k place.Nobody) (replicate k Nobody)
   shows_none zero = tt
   shows_none (suc k) = (tt, shows_none k)
-
-  -- one place more was joined
-  pub joins_more : (names rest : List Meaning) (p : Place P O) (places : List (Place P O)) (a b c : RootView (List ℕ)) → ShowsAll r (p ∷ places) rest → ((n : Meaning) → Shows r p n → JoinsOne a n b) → ((s : RootView (List ℕ)) → JoinsAll a rest s → JoinsAll c names s) → (left : List Meaning) × ShowsAll r places left × ((s : RootView (List ℕ)) → JoinsAll b left s → JoinsAll c names s)
-  joins_more names [] p places a b c shows one all = absurd shows
-  joins_more names (n ∷ rest) p places a b c shows one all = (rest, shows.1, λ s joins. all s (b, one n shows.0, joins))
-
-  pub joins_end : (rest : List Meaning) (places : List (Place P O)) (a : RootView (List ℕ)) → ShowsAll r places rest → places ≡ [] → JoinsAll a rest a
-  joins_end [] places a shows none = refl
-  joins_end (n ∷ rest) [] a shows none = absurd shows
-  joins_end (n ∷ rest) (p ∷ places) a shows none = absurd cc

@@ -2,7 +2,8 @@
 
 ghost use Rattle.std.specs.Prelude.{◌≡◌, ◌++◌, ℕ, IfOk, OnOk, IsTrue, List, codes, map, string_bytes};
 ghost use Rattle.std.specs.List.{AllByRecursion};
-ghost use Rattle.player.specs.Plays.{Ends, Plays, World, start};
+ghost use Rattle.bounded_model.specs.declared.history.Order.{Order};
+ghost use Rattle.player.specs.Plays.{Ends, IsFit, Plays, World, start};
 ghost use Rattle.player.specs.Shows.{IsOn, reading_of};
 ghost use Rattle.player.specs.Traces.{Adds, PlaysTraced, lines_in, nothing_held};
 ghost use Rattle.script.specs.AnswerTexts.{answer_text};
@@ -13,7 +14,7 @@ ghost use Rattle.script.specs.declared.answer.Answer.TheVariants.{Rest as LeftOv
 use crate::ranges::Ranges;
 use crate::stage::{Stage, act, finish};
 use crate::trace::Trace;
-use script::{Answer, Line, Value};
+use script::{Act, Answer, Line, Value};
 use std::alloc::{AllocError, Global};
 use std::collections::VecDeque;
 use std::sync::Wait;
@@ -58,6 +59,7 @@ pub fn play<'a, G: Ranges<'a, C>, C: Named<Value<'a>>, R: Wait>(
         match line {
             Line::By(name, what) => {
                 trace.turn_to(name);
+                let what = fitting(&container, trace, what);
                 let answer = act::<G, _, _>(&container, rt, &mut stage, what, trace)?;
                 write_reply(answer, &mut output)?;
             }
@@ -68,6 +70,18 @@ pub fn play<'a, G: Ranges<'a, C>, C: Named<Value<'a>>, R: Wait>(
         }
     }
     Ok(output)
+}
+
+/// The same act. As with `held`, the prover then knows what the next call requires: it is in the
+/// words of that call. What this requires in turn is shown by hand, which is cheap because its type
+/// parameter has no bound.
+fn fitting<'a, C>(_container: &C, trace: &Trace, what: Act<'a>) -> Act<'a>
+    ghost order: { Order }
+    requires { IsFit order trace.now.pass.0 what }
+    ensures same { result ≡ what.entry }
+    ensures fit { IsFit order trace.now.pass.0 result }
+{
+    what
 }
 
 /// Adds the reply of a line.

@@ -1,8 +1,9 @@
 //! The root of a container and the passes that a script names, and what each line does with them.
 
-ghost use Rattle.std.specs.Prelude.{◌≡◌, ◌≢◌, ◌-◌, if◌then◌else◌, List, IsTrue, IfOk, slice_set};
+ghost use Rattle.std.specs.Prelude.{◌≡◌, ◌≢◌, ◌-◌, if◌then◌else◌, ℕ, List, IsTrue, IfOk, length, slice_set};
 ghost use Rattle.std.specs.Char.{is_ascii_lowercase};
-ghost use Rattle.player.specs.Plays.{Acts, Does, DoesMeet, Ends, IsFor, JoinsAll, JoinsOne, MeetTold, Meaning, World};
+ghost use Rattle.bounded_model.specs.declared.views.RootView.{RootView};
+ghost use Rattle.player.specs.Plays.{Acts, Does, DoesMeet, Ends, IsFor, JoinsAll, MeetTold, Meaning, World};
 ghost use Rattle.player.specs.Shows.{CanAct, Found, IsOn, Shows, ShowsAll, reading_of};
 ghost use Rattle.player.specs.Traces.{ActsTraced, AreKept, DoesTraced, IsFound, IsKept, Traces, held_by};
 ghost use Rattle.player.specs.declared.place.Place.TheVariants.{Nobody};
@@ -17,6 +18,7 @@ use crate::trace::Trace;
 use bounded_model::Leaving;
 use script::{Act, Answer, PassName, Value, ValueList};
 use std::alloc::{AllocError, Global};
+use std::collections::VecDeque;
 use std::sync::Wait;
 use step_names::Named;
 
@@ -110,9 +112,21 @@ pub fn act<'a, G: Ranges<'a, C>, C: Named<Value<'a>>, R: Wait>(
 {
     let name = trace.pass;
     match act {
-        Act::Meet(other) => Ok(meet(container, stage, name, other)),
+        Act::Meet(other) => {
+            let other = other_letter(name, other);
+            Ok(meet(container, stage, name, other))
+        }
         act => act_alone::<G, _, _>(container, rt, stage, name, act, trace),
     }
+}
+
+/// The same other letter. As with `held`, the prover then knows what the next call requires.
+fn other_letter(name: PassName, other: PassName) -> PassName
+    requires { IsTrue (is_ascii_lowercase other.0) × (name.0 ≢ other.0) }
+    ensures same { result ≡ other }
+    ensures apart { IsTrue (is_ascii_lowercase result.0) × (name.0 ≢ result.0) }
+{
+    other
 }
 
 /// Does it at the place of its letter.
@@ -236,28 +250,35 @@ fn join_all<'a, C: Named<Value<'a>>>(
         → ShowsAll (reading_of C.Container C.Stepwise.own container.now) places.of.items names
         → JoinsAll (C.root root.old) names (C.root root.new) }
 {
-    let Places { of } = places;
-    for place in of {
-        join_one(container, root, place);
+    let mut left = VecDeque::from(places.of);
+    while !left.is_empty() {
+        join_first(container, root, &mut left);
     }
 }
 
-fn join_one<'a, C: Named<Value<'a>>>(
+/// Does it for the first of those that are left. It takes the place itself, so that what it requires
+/// is word for word what the loop keeps, which is of all that are left.
+fn join_first<'a, C: Named<Value<'a>>>(
     container: &C,
     root: &mut C::Root,
-    place: Place<C::Pass, C::Op>,
+    left: &mut VecDeque<Place<C::Pass, C::Op>>,
 )
     requires root { C.is_root container.now root.old }
-    requires place { (name : Meaning) × Shows (reading_of C.Container C.Stepwise.own container.now)
-        place name }
+    requires places { (names : List Meaning)
+        × ShowsAll (reading_of C.Container C.Stepwise.own container.now) left.old.items names }
     ensures root { C.is_root container.now root.new }
-    ensures joined { (name : Meaning) → Shows (reading_of C.Container C.Stepwise.own container.now)
-        place name → JoinsOne (C.root root.old) name (C.root root.new) }
+    ensures places { (names : List Meaning)
+        × ShowsAll (reading_of C.Container C.Stepwise.own container.now) left.new.items names }
+    ensures joined { (names : List Meaning)
+        → ShowsAll (reading_of C.Container C.Stepwise.own container.now) left.old.items names
+        → (rest : List Meaning)
+        × ShowsAll (reading_of C.Container C.Stepwise.own container.now) left.new.items rest
+        × ((s : RootView (List ℕ)) → JoinsAll (C.root root.new) rest s
+        → JoinsAll (C.root root.old) names s) }
+    ensures fewer { length left.new.items ≡ length left.old.items - 1 }
 {
-    match place {
-        Place::Nobody => {}
-        Place::Resting(pass) => container.join(root, pass),
-        Place::Acting(_) => {}
+    if let Some(Place::Resting(pass)) = left.pop_front() {
+        container.join(root, pass);
     }
 }
 

@@ -1,22 +1,14 @@
-//! Tests of the program's calls from above: `replay` over rows of scripts with their replies,
-//! worked out by hand, `relay_main` over rows of files with their outcomes, and `read_words` over
-//! rows of words. They also show what no clause says of the counts of a relay's tries, and no
-//! process shows.
+//! Tests of the program's calls from above: what `read_words` makes of rows of words, what `replay`
+//! and `relay_main` write, and why they refuse what they read. They also show what no clause says of
+//! the counts of a relay's tries, and no process shows. The other scripts and relays are in
+//! `tests/cases`, which `tests/program` plays.
 #![tactic(auto)]
 
 #[cfg(test)]
 mod command_lines;
 #[cfg(test)]
-mod queue_rows;
-#[cfg(test)]
 mod relays;
 #[cfg(test)]
 mod replays;
 #[cfg(test)]
-mod resumed_rows;
-#[cfg(test)]
-mod stack_rows;
-#[cfg(test)]
 mod stats_tests;
-#[cfg(test)]
-mod stopped_rows;

@@ -2,22 +2,23 @@
 ghost use Rattle.std.specs.Prelude.{ℕ, ◌+◌, ◌*◌, ◌<◌, ◌≤◌};
 ghost use Rattle.bounded_model.specs.Laws.{Leaves, NoneOut};
 ghost use Rattle.bounded_model.specs.declared.commands.Command.{Command};
-ghost use Rattle.ms_queue.specs.Closing.{IsClosing};
+ghost use Rattle.bounded_model.specs.declared.views.PassView.{PassView};
 ghost use Rattle.ms_queue.specs.Left.{left_in};
-ghost use Rattle.ms_queue.specs.Looking.{IsLooking};
-ghost use Rattle.ms_queue.specs.Putting.{IsPutting};
-ghost use Rattle.ms_queue.specs.Queue.{IsPassOf, IsRootOf, pass_in, root_in, shape_of};
-ghost use Rattle.ms_queue.specs.Shutting.{IsShutting};
+ghost use Rattle.ms_queue.specs.Queue.{IsPassOf, IsRootOf, machine_of, pass_in, root_in, shape_of};
 ghost use Rattle.ms_queue.specs.Stepwise.{IsMakingCall, making};
-ghost use Rattle.ms_queue.specs.Taking.{IsTaking};
 ghost use Rattle.ms_queue.specs.Trying.{PutTried, TakeTried};
+ghost use Rattle.queue_machine.specs.declared.lines.Line.{Line};
 ghost use Rattle.queue_runs.specs.Work.{fee, others_of};
 ghost use Rattle.runs.specs.Work.{total_steps, total_fees};
 ghost use Rattle.progress.specs.Queues.{StepsAreBounded, EndsOrOvertaken, IsOvertaken, IsPaidRun};
+ghost use Rattle.running.specs.Going.{Going};
 ghost use Rattle.running.specs.Kept.{acts_of_root};
 
 use bounded_model::{PutRefused, Stepped, TakeRefused};
-use ms_queue::{AnyOp, CloseOp, LookOp, Pass, PutOp, Queue, Rest, Root, ShutOp, TakeOp};
+use ms_queue::{AnyOp, Pass, PutOp, Queue, Rest, Root, TakeOp};
+use queue_machine::Line;
+use queue_table::Operation;
+use running::Op;
 use runs::step_for;
 
 /// An operation that is still under way has made at most this many steps, and 8 more for each
@@ -68,46 +69,11 @@ pub fn end<T>(queue: Queue<T>, parent: Root<T>) -> Rest<T>
     queue.finish(parent)
 }
 
-/// A put under way has made at most `ALONE` steps, and 8 for each compare-and-swap by which another
-/// pass has succeeded since it was begun.
-pub fn put_is_bounded<T>(queue: &Queue<T>, op: &PutOp<T>)
-    requires { (x : T) × IsPutting queue.now x op.now }
-    ensures { StepsAreBounded queue.now op.now.operation op.now.pass }
-{
-    let _ = queue;
-    let _ = op;
-}
-
-/// The same for a take.
-pub fn take_is_bounded<T>(queue: &Queue<T>, op: &TakeOp<T>)
-    requires { IsTaking queue.now op.now }
-    ensures { StepsAreBounded queue.now op.now.operation op.now.pass }
-{
-    let _ = queue;
-    let _ = op;
-}
-
-/// The same for a close.
-pub fn close_is_bounded<T>(queue: &Queue<T>, op: &CloseOp<T>)
-    requires { IsClosing queue.now op.now }
-    ensures { StepsAreBounded queue.now op.now.operation op.now.pass }
-{
-    let _ = queue;
-    let _ = op;
-}
-
-/// The same for a shut.
-pub fn shut_is_bounded<T>(queue: &Queue<T>, op: &ShutOp<T>)
-    requires { IsShutting queue.now op.now }
-    ensures { StepsAreBounded queue.now op.now.operation op.now.pass }
-{
-    let _ = queue;
-    let _ = op;
-}
-
-/// The same for a look.
-pub fn look_is_bounded<T>(queue: &Queue<T>, op: &LookOp<T>)
-    requires { IsLooking queue.now op.now }
+/// An operation of any kind that is under way has made at most `ALONE` steps since it was begun, and 8
+/// more for each compare-and-swap by which another pass has succeeded meanwhile.
+pub fn operation_is_bounded<T, S>(queue: &Queue<T>, op: &Op<T, Line<T>, Operation<T>, S>)
+    requires { (begun : PassView T) × (line : Line T)
+        × Going (machine_of queue.now) op.now.operation op.now.pass.seat.me.0 begun line }
     ensures { StepsAreBounded queue.now op.now.operation op.now.pass }
 {
     let _ = queue;

@@ -2,12 +2,9 @@
 ghost use Rattle.std.specs.Prelude.{◌≡◌, ◌+◌, ◌-◌, ◌*◌, ◌<◌, ◌≤◌, ℕ};
 ghost use Rattle.bounded_model.specs.Laws.{Leaves, NoneOut};
 ghost use Rattle.bounded_model.specs.declared.commands.Command.{Command};
+ghost use Rattle.bounded_model.specs.declared.views.PassView.{PassView};
 ghost use Rattle.ring_machine.specs.Machine.{resting};
-ghost use Rattle.ring_queue.specs.Closing.{IsClosing, IsShutting};
-ghost use Rattle.ring_queue.specs.Counting.{IsCounting};
 ghost use Rattle.ring_queue.specs.Leaving.{left_in};
-ghost use Rattle.ring_queue.specs.Looking.{IsLooking};
-ghost use Rattle.ring_queue.specs.Putting.{IsPutting};
 ghost use Rattle.ring_queue.specs.Ring.{
   Answered as HasAnswered,
   IsPassOf,
@@ -18,17 +15,18 @@ ghost use Rattle.ring_queue.specs.Ring.{
 };
 ghost use Rattle.ring_queue.specs.Roots.{IsRootOf, root_in};
 ghost use Rattle.ring_queue.specs.Stepwise.{IsMakingCall, making};
-ghost use Rattle.ring_queue.specs.Taking.{IsTaking};
 ghost use Rattle.ring_queue.specs.Trying.{PutTried, TakeTried};
+ghost use Rattle.ring_table.specs.declared.line.SeatLine.{SeatLine};
 ghost use Rattle.ring_runs.specs.Work.{fee};
 ghost use Rattle.runs.specs.Work.{total_steps, total_fees};
 ghost use Rattle.progress.specs.Rings.{EndsOrOvertaken, IsOvertaken, IsPaidRun, StepsAreBounded};
+ghost use Rattle.running.specs.Going.{Going};
 ghost use Rattle.running.specs.Kept.{acts_of_root};
 
 use bounded_model::{PutRefused, Stepped, TakeRefused};
-use ring_queue::{
-    AnyOp, CloseOp, LenOp, LookOp, Pass, PutOp, Rest, RingQueue, Root, ShutOp, TakeOp,
-};
+use ring_queue::{AnyOp, Pass, PutOp, Rest, RingQueue, Root, TakeOp};
+use ring_table::{Operation, SeatLine};
+use running::Op;
 use runs::step_for;
 
 /// An operation that is still under way has made at most this many steps, and 18 more for each
@@ -79,55 +77,11 @@ pub fn end<T>(ring: RingQueue<T>, parent: Root<T>) -> Rest<T>
     ring.finish(parent)
 }
 
-/// A put under way has made at most `ALONE` steps, and 18 for each compare-and-swap by which another pass
-/// has succeeded since it was begun.
-pub fn put_is_bounded<T>(ring: &RingQueue<T>, op: &PutOp<T>)
-    requires { (x : T) × IsPutting ring.now x op.now }
-    ensures { StepsAreBounded ring.now op.now.operation op.now.pass }
-{
-    let _ = ring;
-    let _ = op;
-}
-
-/// The same for a take.
-pub fn take_is_bounded<T>(ring: &RingQueue<T>, op: &TakeOp<T>)
-    requires { IsTaking ring.now op.now }
-    ensures { StepsAreBounded ring.now op.now.operation op.now.pass }
-{
-    let _ = ring;
-    let _ = op;
-}
-
-/// The same for a close.
-pub fn close_is_bounded<T>(ring: &RingQueue<T>, op: &CloseOp<T>)
-    requires { IsClosing ring.now op.now }
-    ensures { StepsAreBounded ring.now op.now.operation op.now.pass }
-{
-    let _ = ring;
-    let _ = op;
-}
-
-/// The same for a shut.
-pub fn shut_is_bounded<T>(ring: &RingQueue<T>, op: &ShutOp<T>)
-    requires { IsShutting ring.now op.now }
-    ensures { StepsAreBounded ring.now op.now.operation op.now.pass }
-{
-    let _ = ring;
-    let _ = op;
-}
-
-/// The same for a look.
-pub fn look_is_bounded<T>(ring: &RingQueue<T>, op: &LookOp<T>)
-    requires { IsLooking ring.now op.now }
-    ensures { StepsAreBounded ring.now op.now.operation op.now.pass }
-{
-    let _ = ring;
-    let _ = op;
-}
-
-/// The same for a count.
-pub fn len_is_bounded<T>(ring: &RingQueue<T>, op: &LenOp<T>)
-    requires { IsCounting ring.now op.now }
+/// An operation of any kind that is under way has made at most `ALONE` steps since it was begun, and 18
+/// more for each compare-and-swap by which another pass has succeeded meanwhile.
+pub fn operation_is_bounded<T, S>(ring: &RingQueue<T>, op: &Op<T, SeatLine<T>, Operation<T>, S>)
+    requires { (begun : PassView T) × (line : SeatLine T)
+        × Going (machine_of ring.now) op.now.operation op.now.pass.seat.me.0 begun line }
     ensures { StepsAreBounded ring.now op.now.operation op.now.pass }
 {
     let _ = ring;

@@ -1,28 +1,23 @@
 //! The bound on the steps of a stack's operations.
-ghost use Rattle.std.specs.Prelude.{ℕ, ◌+◌, ◌*◌, ◌<◌, List, Option as Slot};
+ghost use Rattle.std.specs.Prelude.{ℕ, ◌+◌, ◌*◌, ◌<◌};
 ghost use Rattle.bounded_model.specs.Laws.{Leaves};
 ghost use Rattle.bounded_model.specs.declared.commands.Command.{Command};
-ghost use Rattle.index_list.specs.declared.front.Front.{Front};
-ghost use Rattle.stack_table.specs.declared.operation.Operation.TheVariants.{Close, Shut};
-ghost use Rattle.treiber_stack.specs.Closing.{IsClosing, IsShutting};
-ghost use Rattle.treiber_stack.specs.FoldOp.{IsFolding};
-ghost use Rattle.treiber_stack.specs.Folding.{fold_operation};
+ghost use Rattle.bounded_model.specs.declared.views.PassView.{PassView};
+ghost use Rattle.stack_machine.specs.declared.lines.Line.{Line};
 ghost use Rattle.treiber_stack.specs.Left.{left_in};
-ghost use Rattle.treiber_stack.specs.Looking.{IsLooking};
-ghost use Rattle.treiber_stack.specs.Putting.{IsPutting};
-ghost use Rattle.treiber_stack.specs.RangeTrying.{IsRanging};
-ghost use Rattle.treiber_stack.specs.Stack.{IsPassOf, IsRootOf, pass_in, root_in, shape_of};
+ghost use Rattle.treiber_stack.specs.Stack.{IsPassOf, IsRootOf, machine_of, pass_in, root_in, shape_of};
 ghost use Rattle.treiber_stack.specs.Stepwise.{IsMakingCall, making};
-ghost use Rattle.treiber_stack.specs.Taking.{IsTaking};
 ghost use Rattle.treiber_stack.specs.Trying.{PutTried, TakeTried};
 ghost use Rattle.progress.specs.Stacks.{StepsAreBounded, EndsOrOvertaken, IsOvertaken, IsPaidRun};
+ghost use Rattle.running.specs.Going.{Going};
 ghost use Rattle.running.specs.Kept.{acts_of_root};
 
 use bounded_model::{PutRefused, Stepped, TakeRefused};
+use running::Op;
 use runs::step_for;
-use treiber_stack::{
-    AnyOp, CloseOp, FoldOp, LookOp, Pass, PutOp, RangeOp, Rest, Root, ShutOp, Stack, TakeOp,
-};
+use stack_machine::Line;
+use stack_table::Operation;
+use treiber_stack::{AnyOp, Pass, PutOp, Rest, Root, Stack, TakeOp};
 
 /// A put or a take of one value, a close, a shut or a look that is still under way has made at most
 /// this many steps. Each compare-and-swap by which another pass has succeeded allows 4 more.
@@ -68,66 +63,13 @@ pub fn end<T>(stack: Stack<T>, parent: Root<T>) -> Rest<T>
     stack.finish(parent)
 }
 
-/// A put under way has made at most `ALONE` steps, and 4 for each compare-and-swap by which another
-/// pass has succeeded since it was begun.
-pub fn put_is_bounded<T>(stack: &Stack<T>, op: &PutOp<T>)
-    requires { (x : T) × IsPutting stack.now x op.now }
+/// An operation of any kind that is under way has made at most this many steps since it was begun, and 4
+/// more for each compare-and-swap by which another pass has succeeded meanwhile: a put or a take of one
+/// value, a close, a shut or a look `ALONE`, and a range or a fold 4 for each node of the stack and 6.
+pub fn operation_is_bounded<T, S>(stack: &Stack<T>, op: &Op<T, Line<T>, Operation<T>, S>)
+    requires { (begun : PassView T) × (line : Line T)
+        × Going (machine_of stack.now) op.now.operation op.now.pass.seat.me.0 begun line }
     ensures { StepsAreBounded stack.now op.now.operation op.now.pass }
-{
-    let _ = stack;
-    let _ = op;
-}
-
-/// The same for a take.
-pub fn take_is_bounded<T>(stack: &Stack<T>, op: &TakeOp<T>)
-    requires { IsTaking stack.now op.now }
-    ensures { StepsAreBounded stack.now op.now.operation op.now.pass }
-{
-    let _ = stack;
-    let _ = op;
-}
-
-/// The same for a close.
-pub fn close_is_bounded<T>(stack: &Stack<T>, op: &CloseOp<T>)
-    requires { IsClosing stack.now op.now }
-    ensures { StepsAreBounded stack.now Close op.now.pass }
-{
-    let _ = stack;
-    let _ = op;
-}
-
-/// The same for a shut.
-pub fn shut_is_bounded<T>(stack: &Stack<T>, op: &ShutOp<T>)
-    requires { IsShutting stack.now op.now }
-    ensures { StepsAreBounded stack.now Shut op.now.pass }
-{
-    let _ = stack;
-    let _ = op;
-}
-
-/// The same for a look.
-pub fn look_is_bounded<T>(stack: &Stack<T>, op: &LookOp<T>)
-    requires { IsLooking stack.now op.now }
-    ensures { StepsAreBounded stack.now op.now.operation op.now.pass }
-{
-    let _ = stack;
-    let _ = op;
-}
-
-/// A put of a range under way has made at most 4 steps for each node of the stack, 6 more, and 4
-/// for each compare-and-swap by which another pass has succeeded since it was begun.
-pub fn range_is_bounded<T>(stack: &Stack<T>, op: &RangeOp<T>)
-    requires { (vs : List T) × (places : List (Slot T)) × IsRanging stack.now vs places op.now }
-    ensures { StepsAreBounded stack.now op.now.operation op.now.pass }
-{
-    let _ = stack;
-    let _ = op;
-}
-
-/// The same for a fold.
-pub fn fold_is_bounded<T>(stack: &Stack<T>, op: &FoldOp<T>)
-    requires { (front : Front) × (values : List T) × IsFolding stack.now front values op.now }
-    ensures { StepsAreBounded stack.now (fold_operation op.now.at) op.now.pass }
 {
     let _ = stack;
     let _ = op;

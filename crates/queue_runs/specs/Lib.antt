@@ -1,4 +1,6 @@
 pub mod Bounded
 pub mod Work
 pub mod Headline
+pub mod Full
 pub mod WrongActs
+pub mod Ended

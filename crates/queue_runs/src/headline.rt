@@ -19,6 +19,7 @@ ghost use Rattle.queue_runs.specs.WrongActs.{idle_step, one_look};
 /// All passes of a queue see one history of one bounded queue. This holds in any table that meets
 /// the rule of a queue, as each queue's does between any two atomic steps of any threads:
 /// - the history is legal. In it no value is lost, duplicated or reordered, and no put follows the close;
+/// - the values that this history leaves are those in the cells along the chain;
 /// - each pass has seen a part of it, with all its own events. No two seats are of one pass, and of two
 ///   passes one has seen all that the other has;
 /// - at no time has a pass more than one cell in hand;

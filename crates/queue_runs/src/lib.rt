@@ -5,13 +5,17 @@
 #![tactic(auto)]
 
 mod bounds;
+mod full;
 mod headline;
 mod linearizable;
+mod lock_free;
 mod one_run;
 mod work;
 
 pub use bounds::{queue_acts_are_a_schedule, queue_steps_are_bounded};
+pub use full::{queue_call_has_point, queue_full_put};
 pub use headline::{queue_headline, queue_headline_near_misses};
 pub use linearizable::queue_acts_are_linearizable;
+pub use lock_free::queue_acts_are_lock_free;
 pub use one_run::queue_one_run;
 pub use work::queue_total_work;

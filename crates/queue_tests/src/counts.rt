@@ -6,7 +6,7 @@ ghost use Rattle.ms_queue.specs.Putting.{IsPutting};
 ghost use Rattle.ms_queue.specs.Queue.{IsPassOf};
 ghost use Rattle.ms_queue.specs.Taking.{IsTaking};
 
-use bounded_model::{Container, Stepped};
+use bounded_model::{Container, PutRefused, Stepped, TakeRefused};
 use ms_queue::{LenOp, Pass, PutOp, Queue, TakeOp};
 use std::alloc::Global;
 use std::process::Abort;
@@ -14,7 +14,7 @@ use std::sync::Wait;
 use std::thread;
 use std::thread::Threads;
 use tagged_index::{Limits, MAX_TAG};
-use waiting::{put_waiting, take_waiting};
+use waiting::wait_a_little;
 
 // A put makes 14 steps, and its value is in the queue from the 13th on.
 const PUT_STEPS: u32 = 14;
@@ -157,14 +157,48 @@ fn a_count_beside_a_take_tells_what_was_there(rt: HostRuntime) {
     }
 }
 
+// Puts a value, and waits while the queue is full. The call is the queue's own, and not one of
+// `waiting`, because passing a known container to generic code takes the prover half a minute.
+fn put_one<R: Wait>(rt: &R, queue: &Queue<u32>, by: Pass<u32>, value: u32) -> Pass<u32>
+    requires { IsPassOf queue.now by }
+    ensures { IsPassOf queue.now result }
+{
+    let mut pass = by;
+    for _ in rt.forever() {
+        let (back, put) = queue.put(rt, pass, value);
+        pass = back;
+        match put {
+            Err(PutRefused::Full(_)) => wait_a_little(),
+            _ => return pass,
+        }
+    }
+    unreachable!()
+}
+
+// Takes a value, and waits while the queue is empty.
+fn take_one<R: Wait>(rt: &R, queue: &Queue<u32>, by: Pass<u32>) -> Pass<u32>
+    requires { IsPassOf queue.now by }
+    ensures { IsPassOf queue.now result }
+{
+    let mut pass = by;
+    for _ in rt.forever() {
+        let (back, taken) = queue.take(rt, pass);
+        pass = back;
+        match taken {
+            Err(TakeRefused::Empty) => wait_a_little(),
+            _ => return pass,
+        }
+    }
+    unreachable!()
+}
+
 // Puts `count` values.
 fn put_many<R: Wait>(rt: &R, queue: &Queue<u32>, by: Pass<u32>, count: u32)
     requires { IsPassOf queue.now by }
 {
     let mut pass = by;
     for value in 0..count {
-        let (back, _) = put_waiting(queue, rt, pass, value);
-        pass = back;
+        pass = put_one(rt, queue, pass, value);
     }
 }
 
@@ -174,8 +208,7 @@ fn take_many<R: Wait>(rt: &R, queue: &Queue<u32>, by: Pass<u32>, count: u32)
 {
     let mut pass = by;
     for _ in 0..count {
-        let (back, _) = take_waiting(queue, rt, pass);
-        pass = back;
+        pass = take_one(rt, queue, pass);
     }
 }
 

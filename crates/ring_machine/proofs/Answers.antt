@@ -1,5 +1,5 @@
 -- What the words that a pass finds tell of the history, so that its answer is right.
-use Rattle.std.proofs.Common.{◌≡◌, ◌≢◌, ℕ, ◌+◌, ◌*◌, ◌<◌, ◌≤◌, Bool, true, false, List, [], ◌∷◌, ◌++◌, length, sym, ap, subst, lt_of_not-le, arith}
+use Rattle.std.proofs.Common.{◌≡◌, ◌≢◌, ℕ, ◌+◌, ◌*◌, ◌<◌, ◌≤◌, Bool, true, false, List, [], ◌∷◌, ◌++◌, length, sym, ap, subst, mul-le-mul_right, lt_of_not-le, arith}
 use Rattle.bounded_model.specs.declared.answers.Word.TheVariants.{Next as NextWord}
 use Rattle.bounded_model.specs.declared.history.Event.{Event}
 use Rattle.bounded_model.specs.declared.history.Event.TheVariants.{Hold, Put, Take, TakeAll, Free, Close, Shut}
@@ -11,7 +11,7 @@ use Rattle.bounded_model.proofs.Histories.{is_nil}
 use Rattle.machine.specs.Words.{Tagged}
 use Rattle.ring_machine.specs.declared.lines.Line.{Line}
 use Rattle.ring_machine.specs.Machine.{Memory, place, empty_at, full_at}
-use Rattle.ring_machine.specs.Answers.{shape, state, IsGauged}
+use Rattle.ring_machine.specs.Answers.{shape, state, HasAllPuts, HasAllValues, IsGauged}
 use Rattle.ring_machine.specs.Rule.{IsBefore, Good}
 use Rattle.ring_machine.proofs.Positions.{laps_small}
 use Rattle.ring_machine.proofs.Turned.{was_put, at_the_back, at_the_front, full_here, not_put, empty_or_full, is_open, is_unshut}
@@ -47,10 +47,13 @@ module _ {T : Type 0} {n laps cells : ℕ} {m : Memory T} {lines : List (Line T)
     pub open_now : (m.slot w.index).mark ≡ false → IsOpen (shape n laps) history
     open_now h = is_open x.marked w.index w.tag b.slot back_here h
 
-    pub full_now : (m.slot w.index).tag ≢ empty_at w.tag → IsFull (shape n laps) history
-    full_now ne =
+    pub all_values_now : (m.slot w.index).tag ≢ empty_at w.tag → HasAllValues (shape n laps) history
+    all_values_now ne =
         let full = full_here x.turned w.index w.tag b.slot back_here le ne in
         omega (arith, full, x.told.balance, x.told.held, few_values x.told)
+
+    pub full_now : (m.slot w.index).tag ≢ empty_at w.tag → IsFull (shape n laps) history
+    full_now ne = let all = all_values_now ne in omega (arith, all, x.told.held)
 
     -- no slot is filled more often than there are laps
     pub puts_within : (state n laps history).puts ≤ laps * n
@@ -70,6 +73,12 @@ module _ {T : Type 0} {n laps cells : ℕ} {m : Memory T} {lines : List (Line T)
     spent_now tag h =
         let small = laps_small n w.tag (omega (arith, b.slot)) in
         ((tt, omega (arith, h)), omega (arith, tag, h, small, back_here, x.told.holds))
+
+    -- and no slot can be filled once more
+    pub all_puts_now : (m.slot w.index).tag ≡ empty_at w.tag → 2 * laps ≤ (m.slot w.index).tag + 1 → HasAllPuts (shape n laps) laps history
+    all_puts_now tag h =
+        let last : laps * n ≤ w.tag * n = mul-le-mul_right n (omega (arith, tag, h)) in
+        omega (arith, last, back_here, puts_within)
 
   -- the slot at the front: its second mark says shut, and where it is empty the ring is, and its mark says closed
   module _ (b : IsBefore n (state n laps history).takes w) (le : (m.slot w.index).tag ≤ full_at w.tag) where

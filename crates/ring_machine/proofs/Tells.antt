@@ -27,7 +27,7 @@ use Rattle.ring_machine.specs.declared.lines.Line.TheVariants.{Idle, FetchTail, 
 use Rattle.ring_machine.specs.Machine.{Memory, memories, Outcome, place, empty_at, full_at, stride, further, with_cell, ends, beyond_back, at_back, beyond_front, at_front, put_done, take_done, has_put, table, cell_of, resting, step, wins_value}
 use Rattle.ring_machine.specs.Answers.{shape, state, IsRight}
 use Rattle.ring_machine.specs.Rule.{IsBefore, IsFine, Tells, progress, Good}
-use Rattle.ring_machine.proofs.Answers.{takes_grow, puts_here, closed_now, gauged_now, open_now, full_now, spent_now, takes_here, shut_now, unshut_now, empty_tag, empty_now, closed_at_front, open_at_front, some_now}
+use Rattle.ring_machine.proofs.Answers.{takes_grow, puts_here, closed_now, gauged_now, open_now, full_now, all_values_now, spent_now, all_puts_now, takes_here, shut_now, unshut_now, empty_tag, empty_now, closed_at_front, open_at_front, some_now}
 
 module _ {T : Type 0} where
   -- an answer that was right stays so when its pass has seen more
@@ -64,9 +64,14 @@ module _ {T : Type 0} where
         (λ b. now_right (closed_now x w.at f.0.at le b))
         (λ b. cases Says (eqb y.tag (empty_at w.at.tag)) (cond (leb (2 * laps) (y.tag + 1)) spent (PutCell w v y)) full
         (λ b'. cases Says (leb (2 * laps) (y.tag + 1)) spent (PutCell w v y)
-        (λ b''. now_right (spent_now x w.at f.0.at le (eqb-true y.tag (empty_at w.at.tag) b') (grind (arith, nat_tests))))
+        (λ b''.
+        let is = eqb-true y.tag (empty_at w.at.tag) b' in
+        let last : 2 * laps ≤ y.tag + 1 = grind (arith, nat_tests) in
+        now_right (spent_now x w.at f.0.at le is last, all_puts_now x w.at f.0.at le is last))
         (λ b''. tt))
-        (λ b'. now_right (full_now x w.at f.0.at le (λ z. grind (arith, nat_tests)), open_now x w.at f.0.at le b)))
+        (λ b'.
+        let full : y.tag ≢ empty_at w.at.tag = λ z. grind (arith, nat_tests) in
+        now_right ((full_now x w.at f.0.at le full, open_now x w.at f.0.at le b), all_values_now x w.at f.0.at le full)))
     back_tells w ToClose f le =
         let y = m.slot w.at.index in
         cases Says y.mark (ends w.cell (AnswerClose false)) (MarkBack w y) (λ b. now_right (closed_now x w.at f.0.at le b)) (λ b. tt)

@@ -62,7 +62,7 @@ module _ {T : Type 0} (c : RingQueue T) {s : MarkAt} {mark : Mark} {at : WalkAt}
         (λ l to hand known. record { is = to ∙ ap (λ (o : Operation T). At (ends end.walk.spare.index (answer_of o false))) (sym named); hand = hand })
 
     pub mark_meets : is_set mark end.slot ≡ false → Marking (On (Setting mark end))
-    mark_meets e = mark_ends false e (On (Setting mark end)) (λ l to hand known. record { same = sym named; is = to; busy = setting_busy T mark end; hand = hand; knows = (known.slot, known.short, known.room) })
+    mark_meets e = mark_ends false e (On (Setting mark end)) (λ l to hand known. record { same = sym named; is = to; busy = setting_busy T mark end; hand = hand; knows = (known.slot, known.short, known.place) })
 
 -- Where the compare-and-swap leads it that was to set the mark
 module _ {T : Type 0} (c : RingQueue T) (end : Found) (r : Outcome) (has : List (ℕ × Slot T)) where

@@ -9,5 +9,6 @@ pub mod Counts
 pub mod Gauges
 pub mod Takes
 pub mod Puts
+pub mod Refusals
 pub mod FastPath
 pub mod Every

@@ -127,5 +127,5 @@ module _ {T : Type 0} (c : RingQueue T) {s : PutAt T} {at : WalkAt} (shown : Sna
           is = to.0 ∙ ap At (by_none end shown.value mark empty (2 * laps_of c) (tag_of end.slot) e ∙ ap (stow end shown.value) reason);
           busy = refl;
           hand = left ∙ ap (λ (zs : List (ℕ × Slot T)). (end.walk.spare.index, None) ∷ rest zs) whole;
-          knows = to.2.slot;
+          knows = (to.2.slot, to.2.place);
         })

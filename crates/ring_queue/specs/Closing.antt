@@ -3,11 +3,8 @@ use Rattle.std.specs.Prelude.{ℕ, Bool, []}
 use Rattle.tagged_index.specs.Fields.{fields_of, mark_of, second_of}
 use Rattle.tagged_index.specs.Limits.{capacity_of}
 use Rattle.tagged_index.specs.declared.limit.Limits.{Limits}
-use Rattle.bounded_model.specs.Laws.{CloseGives, ShutGives}
-use Rattle.bounded_model.specs.Machine.{Shape}
 use Rattle.bounded_model.specs.declared.commands.Reply.{Reply}
 use Rattle.bounded_model.specs.declared.commands.Reply.TheVariants as reply
-use Rattle.bounded_model.specs.declared.views.PassView.{PassView}
 use Rattle.ring_machine.specs.declared.lines.Answer.{Answer}
 use Rattle.ring_machine.specs.declared.lines.Answer.TheVariants.{Close as AnswerClose, Shut as AnswerShut}
 use Rattle.ring_machine.specs.declared.lines.Back.TheVariants.{ToClose}
@@ -17,7 +14,10 @@ use Rattle.ring_machine.specs.declared.lines.Line.TheVariants.{MarkBack, ShutFro
 use Rattle.ring_machine.specs.Machine.{ends}
 use Rattle.running.specs.Code.{Account, to_answer}
 use Rattle.running.specs.Kept.{Makes}
+use Rattle.running.specs.Steps.{Ran}
+use Rattle.running.specs.declared.code.Next.{Next}
 use Rattle.running.specs.declared.op.Op.{Op}
+use Rattle.running.specs.declared.passes.Pass.{Pass}
 use Rattle.ring_table.specs.declared.line.SeatLine.{SeatLine}
 use Rattle.ring_table.specs.declared.line.SeatLine.TheVariants.{At}
 use Rattle.ring_table.specs.declared.operation.Operation.{Operation}
@@ -75,11 +75,6 @@ module _ {T : Type 0} where
   answer_of ShutFirst done = AnswerShut done
   answer_of o done = AnswerClose done
 
-  -- and gives
-  abbrev pub MarkGives : Operation T → Shape → PassView T → PassView T → Bool → Type 0
-  MarkGives ShutFirst c v w done = ShutGives c v w done
-  MarkGives o c v w done = CloseGives c v w done
-
   -- the machine's line
   abbrev pub mark_line : MarkAt → Line T
   mark_line (Walking mark at) = walk_line (aim_of mark) at
@@ -91,6 +86,10 @@ module _ {T : Type 0} where
   mark_account k = to_answer (λ s. operation_of (mark_of_step s)) (λ s. At (mark_line s)) (λ s. []) (λ s. HasReadToMark (capacity_of k) s) (λ o a. At (ends a.kept.index (answer_of o a.reply)))
 
 module _ {T : Type 0} where
+  -- what some steps of it give
+  abbrev pub MarkRan : RingQueue T → Operation T → Pass T (SeatLine T) → Pass T (SeatLine T) → Next MarkAt (Answered Bool) → Type 0
+  MarkRan c o p q r = Ran (machine_of c) (mark_account c.table.shared.key) c.table.shared.table_id o p q r
+
   abbrev pub IsClosing : RingQueue T → CloseOp T → Type 0
   IsClosing c op = Makes (machine_of c) (mark_account c.table.shared.key) c.table.shared.table_id (is_call CloseCall) op
 

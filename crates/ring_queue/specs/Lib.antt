@@ -11,6 +11,7 @@ pub mod Looking
 pub mod Naming
 pub mod Putting
 pub mod Ran
+pub mod Refusals
 pub mod Ring
 pub mod Roots
 pub mod Stepwise

@@ -28,7 +28,7 @@ use Rattle.ring_queue.specs.Ring.{Answered}
 use Rattle.ring_queue.specs.Ring.{RingQueue}
 use Rattle.ring_queue.specs.Limits.{laps_at}
 use Rattle.ring_queue.specs.Ring.{machine_of}
-use Rattle.ring_queue.specs.Walking.{to_back, walk_line, line_of, spare_at, IsRead, IsEnd, MayPass}
+use Rattle.ring_queue.specs.Walking.{to_back, walk_line, line_of, spare_at, IsRead, IsEnd, IsAt, MayPass}
 
 abbrev pub PutOp : Type 0 → Type 0
 PutOp T = Op T (SeatLine T) (Operation T) (PutAt T)
@@ -85,7 +85,7 @@ module _ {T : Type 0} where
   HasReadToPut n laps (Walking shown at) = IsRead n at
   HasReadToPut n laps (Exchange shown end) = IsEnd n laps 0 end × (tag_of end.slot ≡ 2 * tag_of end.walk.at) × (tag_of end.slot + 1 < 2 * laps)
   HasReadToPut n laps (PassTail shown w) = MayPass n w
-  HasReadToPut n laps (Stow w why) = index_of w.at < n
+  HasReadToPut n laps (Stow w why) = IsAt n w
 
   -- how it is read
   abbrev pub put_account : Limits → Account T (SeatLine T) (Operation T) (PutAt T) (Answer T)

@@ -16,6 +16,7 @@ use Rattle.running.specs.Steps.{Stands, Ran}
 use Rattle.running.specs.declared.code.Next.{Next}
 use Rattle.running.specs.declared.op.Op.{Op}
 use Rattle.running.specs.declared.passes.Pass.{Pass}
+use Rattle.ring_table.specs.Layout.{slot_at}
 use Rattle.ring_table.specs.declared.line.SeatLine.{SeatLine}
 use Rattle.ring_table.specs.declared.line.SeatLine.TheVariants.{At}
 use Rattle.ring_table.specs.declared.operation.Operation.{Operation}
@@ -28,7 +29,7 @@ use Rattle.ring_queue.specs.declared.calls.taking.TakeAt.{TakeAt}
 use Rattle.ring_queue.specs.declared.calls.taking.TakeAt.TheVariants.{Walking, Exchange, PassHead, Stow}
 use Rattle.ring_queue.specs.Limits.{laps_at}
 use Rattle.ring_queue.specs.Ring.{machine_of}
-use Rattle.ring_queue.specs.Walking.{to_front, walk_line, line_of, IsRead, IsEnd, MayPass}
+use Rattle.ring_queue.specs.Walking.{to_front, walk_line, line_of, IsRead, IsEnd, IsAt, MayPass}
 
 abbrev pub TakeOp : Type 0 → Type 0
 TakeOp T = Op T (SeatLine T) (Operation T) (TakeAt T)
@@ -62,8 +63,8 @@ module _ {T : Type 0} where
   abbrev pub HasReadToTake : ℕ → ℕ → TakeAt T → Type 0
   HasReadToTake n laps (Walking at) = IsRead n at
   HasReadToTake n laps (Exchange end) = IsEnd n laps 1 end × (tag_of end.slot ≡ 2 * tag_of end.walk.at + 1)
-  HasReadToTake n laps (PassHead w v) = MayPass n w
-  HasReadToTake n laps (Stow w v) = index_of w.at < n
+  HasReadToTake n laps (PassHead w v) = MayPass n w × (w.place ≡ slot_at n (index_of w.at))
+  HasReadToTake n laps (Stow w v) = IsAt n w
 
   -- how it is read
   abbrev pub take_account : Limits → Account T (SeatLine T) (Operation T) (TakeAt T) (Answer T)

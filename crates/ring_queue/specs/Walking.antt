@@ -11,7 +11,7 @@ use Rattle.ring_machine.specs.Machine.{stride, at_back, at_front}
 use Rattle.running.specs.Code.{Came, Finding, MatchNext}
 use Rattle.running.specs.declared.access.Outcome.{Outcome}
 use Rattle.running.specs.declared.code.Next.{Next}
-use Rattle.ring_table.specs.Layout.{head_at, tail_at}
+use Rattle.ring_table.specs.Layout.{head_at, slot_at, tail_at}
 use Rattle.ring_table.specs.declared.line.SeatLine.{SeatLine}
 use Rattle.ring_table.specs.declared.line.SeatLine.TheVariants.{At}
 use Rattle.ring_queue.specs.Ring.{RingQueue}
@@ -37,16 +37,20 @@ spare_at (LoadHint c) = c
 spare_at (LoadSlot w) = w.spare
 spare_at (MoveHint w) = w.spare
 
--- a position is one of a slot, on a walk that has the number of slots
+-- a walk has come to a slot, and has its word
+abbrev pub IsAt : ℕ → Walk → Type 0
+IsAt n w = (index_of w.at < n) × (w.place ≡ slot_at n (index_of w.at))
+
+-- a position is one of a slot, whose word the walk has
 abbrev pub IsRead : ℕ → WalkAt → Type 0
-IsRead n (LoadSlot w) = (index_of w.at < n) × (w.gone < stride) × (w.room ≡ n)
+IsRead n (LoadSlot w) = (index_of w.at < n) × (w.gone < stride) × (w.place ≡ slot_at n (index_of w.at))
 IsRead n at = Unit {0}
 
 -- at the end the slot has not been passed
 pub record IsEnd (n laps full : ℕ) (f : Found) : Type 0 where
   pub slot : index_of f.walk.at < n
   pub short : f.walk.gone < stride
-  pub room : f.walk.room ≡ n
+  pub place : f.walk.place ≡ slot_at n (index_of f.walk.at)
   pub within : tag_of f.slot ≤ 2 * laps
   pub here : tag_of f.slot ≤ 2 * tag_of f.walk.at + full
 

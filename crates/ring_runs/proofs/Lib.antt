@@ -15,3 +15,4 @@ mod Fees
 pub mod Total
 mod Ended
 pub mod Tables
+pub mod FullPuts

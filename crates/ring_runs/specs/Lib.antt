@@ -4,3 +4,4 @@ pub mod Linearizable
 pub mod Work
 pub mod Ended
 pub mod Headline
+pub mod Full

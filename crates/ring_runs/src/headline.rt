@@ -10,6 +10,7 @@ ghost use Rattle.ring_runs.specs.Headline.{Headline};
 /// All passes of a ring see one history of one bounded queue. This holds in any table that meets
 /// the rule of a ring, as each ring's does between any two atomic steps of any threads:
 /// - the history is legal. In it no value is lost, duplicated or reordered, and no put follows the close;
+/// - the values that this history leaves are those in the slots from the front to the back;
 /// - each pass has seen a part of it, with all its own events. No two seats are of one pass, and of two
 ///   passes one has seen all that the other has;
 /// - at no time has a pass more than one cell in hand;

@@ -8,6 +8,7 @@
 #![tactic(auto)]
 
 mod bounds;
+mod full;
 mod headline;
 mod linearizable;
 mod lock_free;
@@ -15,6 +16,7 @@ mod one_run;
 mod work;
 
 pub use bounds::{ring_acts_are_a_schedule, ring_steps_are_bounded};
+pub use full::{ring_call_has_point, ring_full_put};
 pub use headline::ring_headline;
 pub use linearizable::ring_acts_are_linearizable;
 pub use lock_free::ring_acts_are_lock_free;

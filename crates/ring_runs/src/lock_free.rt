@@ -14,8 +14,7 @@ ghost use Rattle.ring_runs.specs.Ended.{CallsEnd};
 /// ring be for P passes at once, and take the acts that led to its table, from any point on. Say
 /// that E calls ended in them. Then the passes have made at most `(24 * P + 7) * (E + P)` steps in
 /// them, together. So among any `P * (24 * P + 7) + 1` steps some call ends, for any number of
-/// passes in all. For a queue and a stack the same follows from `queue_lock_free` and
-/// `stack_lock_free`, since their acts are schedules of those machines.
+/// passes in all.
 pub fn ring_acts_are_lock_free<T>()
     ensures { (n laps passes numbers : ℕ) (later earlier : Acts (SeatLine T)) → 0 < n → 0 < passes
         → Below numbers (later ++ earlier)

@@ -1,6 +1,7 @@
 -- What the calls of a ring give, from the answers of its machine.
 use Rattle.std.proofs.Common.{◌≡◌, ℕ, ◌+◌, ◌*◌, ◌<◌, ◌≤◌, Bool, true, false, List, [], ◌∷◌, length, sym, ap, ◌∙◌, subst, arith}
 use Rattle.std.specs.Prelude.{Result, Ok, Err}
+use Rattle.bounded_model.specs.declared.answers.Word.{Word}
 use Rattle.bounded_model.specs.declared.answers.Word.TheVariants.{Cells, Nodes, Next, Free as FreeWord, Top, Count}
 use Rattle.bounded_model.specs.declared.answers.PutRefused.{PutRefused}
 use Rattle.bounded_model.specs.declared.answers.PutRefused.TheVariants.{Full, Closed, Spent}
@@ -11,12 +12,12 @@ use Rattle.bounded_model.specs.declared.history.Event.TheVariants.{Hold, Put, Ta
 use Rattle.bounded_model.specs.declared.views.PassView.{PassView}
 use Rattle.bounded_model.specs.Histories.{own}
 use Rattle.bounded_model.specs.Justified as right
-use Rattle.bounded_model.specs.Justified.{Sometime}
+use Rattle.bounded_model.specs.Justified.{IsOpen, Sometime}
 use Rattle.bounded_model.specs.Laws.{Adds, BacksOut, PutGives, TakeGives, CloseGives, ShutGives, LookGives, LenGives}
 use Rattle.bounded_model.specs.Machine.{Shape, State, state}
 use Rattle.machine.specs.Seats.{pass_of}
 use Rattle.machine.specs.declared.seats.View.{View}
-use Rattle.ring_machine.specs.Answers.{shape, IsGauged}
+use Rattle.ring_machine.specs.Answers.{shape, HasAllPuts, HasAllValues, IsFullNow, IsGauged, IsSpentNow}
 use Rattle.ring_machine.specs.Deeds.{Deeds}
 use Rattle.ring_machine.specs.Machine.{ends}
 use Rattle.ring_machine.specs.declared.lines.Answer.{Answer}
@@ -38,12 +39,30 @@ module _ {T : Type 0} (c : Shape) (passes : ℕ) {old new : List (Event T)} (Say
   pub still_right : Sometime old new (λ h. Says (state c h)) → Sometime old new (λ h. Says (state (with_passes c passes) h))
   still_right s = record { at = s.at; since = s.since; until = s.until; holds = subst Says (sym (state_same c passes s.at)) s.holds }
 
+-- a part of what was so at some time
+part : {T : Type 0} {old new : List (Event T)} {P Q : List (Event T) → Type 0} → ((h : List (Event T)) → P h → Q h) → Sometime old new P → Sometime old new Q
+part q s = record { at = s.at; since = s.since; until = s.until; holds = q s.at s.holds }
+
 module _ {T : Type 0} (n laps passes : ℕ) (v : View T (SeatLine T)) (begun : PassView T) (cell : ℕ) where
   abbrev Ends : Operation T → Answer T → Type 0
   Ends o a = Ended (ring_on T n laps passes) o v begun (At (ends cell a))
 
   right_for : (Says : State T → Type 0) → Sometime begun.seen (pass_of v).seen (λ h. Says (state (shape n laps) h)) → Sometime begun.seen (pass_of v).seen (λ h. Says (state (shape_for T n laps passes) h))
   right_for Says = still_right (shape n laps) passes Says
+
+  -- why a put was refused, as its last line tells it
+  full_told : {o : Operation T} (y : T) → Ends o (AnswerPut (Err (Full y))) → Sometime begun.seen (pass_of v).seen (IsFullNow n laps)
+  full_told y e = e.tells
+
+  spent_told : {o : Operation T} (y : T) (word : Word) (t : ℕ) → Ends o (AnswerPut (Err (Spent y word t))) → Sometime begun.seen (pass_of v).seen (IsSpentNow n laps word t)
+  spent_told y word t e = e.tells
+
+  -- and what that says of a ring alone
+  pub put_full : {o : Operation T} (y : T) → Ends o (AnswerPut (Err (Full y))) → Sometime begun.seen (pass_of v).seen (λ h. HasAllValues (shape_for T n laps passes) h × IsOpen (shape_for T n laps passes) h)
+  put_full y e = right_for (λ s. (length s.values ≡ n) × (s.closed ≡ false)) (part (λ h r. (r.1, r.0.1)) (full_told y e))
+
+  pub put_spent : {o : Operation T} (y : T) (word : Word) (t : ℕ) → Ends o (AnswerPut (Err (Spent y word t))) → Sometime begun.seen (pass_of v).seen (HasAllPuts (shape_for T n laps passes) laps)
+  put_spent y word t e = right_for (λ s. s.puts ≡ laps * n) (part (λ h r. r.1) (spent_told y word t e))
 
   adds_of : {o : Operation T} {a : Answer T} (e : Ends o a) (d : Deeds n (pass_of v).number (call_of o) (ends cell a) begun.seen (pass_of v).seen) (events : List (Event T)) → own (pass_of v).number d.between ≡ events → Adds begun (pass_of v) events
   adds_of e d events made = record {
@@ -66,9 +85,9 @@ module _ {T : Type 0} (n laps passes : ℕ) (v : View T (SeatLine T)) (begun : P
 
     gives_so : (r : Result ℕ (PutRefused T)) → Ends o (AnswerPut r) → Done r → PutGives (shape_for T n laps passes) begun x (pass_of v) r
     gives_so (Ok k) e d = put_adds (Ok k) e d (Put begun.number (x ∷ []) k ∷ Hold begun.number ∷ []) (d.made ∙ ap (λ (j : ℕ). Put j (x ∷ []) k ∷ Hold j ∷ []) e.number)
-    gives_so (Err (Full y)) e d = (d.made.0, put_adds (Err (Full y)) e d [] d.made.1, right_for (λ s. (length s.values + s.held ≡ n) × (s.closed ≡ false)) e.tells)
+    gives_so (Err (Full y)) e d = (d.made.0, put_adds (Err (Full y)) e d [] d.made.1, right_for (λ s. (length s.values + s.held ≡ n) × (s.closed ≡ false)) (part (λ h r. r.0) (full_told y e)))
     gives_so (Err (Closed y)) e d = (d.made.0, none_held (Err (Closed y)) e d d.made.1, right_for (λ s. s.closed ≡ true) e.tells)
-    gives_so (Err (Spent y (Next i) t)) e d = (d.made.0, none_held (Err (Spent y (Next i) t)) e d d.made.1, right_for (λ s. (Unit {0} × (2 * laps < t + 2)) × (2 * laps ≤ 2 * s.holds)) e.tells)
+    gives_so (Err (Spent y (Next i) t)) e d = (d.made.0, none_held (Err (Spent y (Next i) t)) e d d.made.1, right_for (λ s. (Unit {0} × (2 * laps < t + 2)) × (2 * laps ≤ 2 * s.holds)) (part (λ h r. r.0) (spent_told y (Next i) t e)))
     gives_so (Err (Spent y Cells t)) e d = absurd d.made
     gives_so (Err (Spent y Nodes t)) e d = absurd d.made
     gives_so (Err (Spent y FreeWord t)) e d = absurd d.made

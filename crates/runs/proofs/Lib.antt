@@ -8,9 +8,9 @@ pub mod Points
 pub mod Costs
 pub mod Work
 pub mod Table
-pub mod Hands
 pub mod WrongTables
 pub mod InTime
 pub mod Effects
 pub mod WrongCalls
 pub mod OneRun
+pub mod Point

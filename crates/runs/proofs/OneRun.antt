@@ -1,17 +1,23 @@
 -- The runs of whole calls are older parts of one run, if what their passes kept of the acts was handed on.
 use Rattle.std.proofs.Common.{◌≡◌, ℕ, List, [], ◌∷◌, ◌++◌, append_assoc, sym, ap, ◌∙◌, subst}
 use mathlib.Core.Option.{Option}
+use Rattle.std.specs.List.{AllByRecursion as Every}
+use Rattle.bounded_model.specs.declared.history.Event.{Event}
 use Rattle.bounded_model.specs.declared.views.PassView.{PassView}
 use Rattle.bounded_model.specs.declared.views.RootView.{RootView}
+use Rattle.bounded_model.specs.Histories.{Later}
+use Rattle.bounded_model.specs.Machine.{Shape}
+use Rattle.bounded_model.proofs.Histories.{Later-trans}
 use Rattle.machine.specs.declared.seats.View.{View}
 use Rattle.machine.specs.Seats.{Acts, Extends, acts_now, pass_of}
 use Rattle.running.specs.Acts.{Begins}
-use Rattle.running.specs.Ends.{IsRunAfter}
+use Rattle.running.specs.Ends.{IsRunAfter, state_at}
 use Rattle.running.specs.Going.{HasRun}
 use Rattle.running.specs.Machine.{Names, Machine}
 use Rattle.running.specs.Since.{BeganSince}
 use Rattle.step_core.specs.Linearizable.{Object}
 use Rattle.runs.specs.Heard.{IsLinearizable}
+use Rattle.runs.specs.InTime.{KnownCall, IsCallOf}
 use Rattle.runs.specs.OneRun.{KeepsTime, OneRun}
 use Rattle.runs.proofs.InTime.{in_one_order}
 use Rattle.runs.proofs.Made.{same_since}
@@ -29,6 +35,11 @@ module _ {A : Type 0} where
   same_behind : (a b : A) (xs ys : List A) → a ∷ xs ≡ b ∷ ys → xs ≡ ys
   unfolding rest
   same_behind a b xs ys e = ap rest e
+
+-- what calls did within a history, they did within a later one
+seen_later : {T : Type 0} (c : Shape) {h later : List (Event T)} → Later h later → (calls : List (KnownCall T)) → Every (IsCallOf c h) calls → Every (IsCallOf c later) calls
+seen_later c longer [] each = tt
+seen_later c longer (k ∷ calls) each = (record { did = each.0.did; seen = Later-trans each.0.seen longer }, seen_later c longer calls each.1)
 
 pub extends_on : {L : Type 0} (a b c : Acts L) → Extends a b → Extends b c → Extends a c
 extends_on {L = L} a b c e f = record { more = f.more ++ e.more; is = f.is ∙ ap (λ (l : Acts L). f.more ++ l) e.is ∙ sym (append_assoc f.more e.more a) }
@@ -62,7 +73,6 @@ module _ {T L O : Type 0} {names : Names L O} (m : Machine T L O names) where
   pub one_run : {C A : Type 0} (call_at : L → C) (answer : L → Option A) (object : Object T C A) (kept : Acts L) (r : RootView T) (left : List T) (all : IsRunAfter m kept r left) → IsLinearizable names m.core call_at answer object all.run.acts → OneRun m call_at answer object kept r left all
   one_run call_at answer object kept r left all calls = record {
     linearizable = calls;
-    time = keeps_time;
     stands = λ o v was l ran heard. stands_in_all o v was l ran kept r left all heard;
-    order = λ known each turns. in_one_order m.core.shape r.seen known each turns;
+    order = λ known each turns. in_one_order m.core.shape (state_at m all.run.acts).history known (seen_later m.core.shape all.run.begins known each) turns;
   }

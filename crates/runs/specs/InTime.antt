@@ -1,4 +1,4 @@
--- Calls of any passes, as their callers know them, in one order: that of the history, which keeps real time.
+-- Calls of any passes, as their callers know them, in one order: that of the history, which keeps what their callers had heard.
 use Rattle.std.specs.Prelude.{◌≡◌, ◌≢◌, ◌⊎◌, ℕ, ◌+◌, ◌<◌, Bool, true, false, List, [], ◌∷◌, length, Result, Ok, Err}
 use mathlib.Core.Option.{some}
 use lib.ListN.{get_elem?}

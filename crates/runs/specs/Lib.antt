@@ -1,5 +1,6 @@
 pub mod Runs
 pub mod Heard
+pub mod Point
 pub mod Made
 pub mod Work
 pub mod Table

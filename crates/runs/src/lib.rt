@@ -3,13 +3,11 @@
 #![tactic(auto)]
 
 mod counting;
-mod full;
 mod one_run;
 mod order;
 mod shown;
 
 pub use counting::step_for;
-pub use full::full_means_full;
 pub use one_run::calls_keep_time;
 pub use order::{calls_in_one_order, calls_near_misses, each_call_did_once};
 pub use shown::seats_near_misses;

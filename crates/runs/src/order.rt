@@ -31,7 +31,8 @@ ghost use Rattle.runs.specs.InTime.{
   shut_effect,
   take_effect,
 };
-ghost use Rattle.runs.specs.WrongCalls.{first_call, late_call, second_call};
+ghost use Rattle.runs.specs.Point.{HasPoint};
+ghost use Rattle.runs.specs.WrongCalls.{early_point, first_call, late_call, late_point, reading, second_call};
 
 /// By its contract, each call did what it answers at one moment, between what its pass had seen as the
 /// call began and as it ended. At that moment its event happened, or what it found was so.
@@ -54,7 +55,7 @@ pub fn each_call_did_once<T>()
         → FoldGives v w xs n → DidOnce c v w (Changes (TakeAll v.number xs n)) }
 {}
 
-/// The calls of all passes are in one order, which keeps real time. Suppose that a root has joined the
+/// The calls of all passes are in one order, which keeps what their callers had heard. Suppose that a root has joined the
 /// passes of these calls, so that the history that it has seen has all that they had seen. The calls are
 /// listed so that those of one pass stand in the list as the pass made them. Then:
 /// - each call stands at a moment of that one history, after it began and before it ended. What it did
@@ -68,8 +69,11 @@ pub fn calls_in_one_order<T>()
 {}
 
 /// Near misses of that order: a pass's two puts that are listed the wrong way round, and a call whose
-/// event had happened before the call began.
+/// event had happened before the call began. Near misses of a call that has its point: one whose point is
+/// before its invocation, and one whose point is after its response.
 pub fn calls_near_misses()
     ensures out_of_turn_refused { ¬ InTurn (second_call ∷ first_call ∷ []) }
     ensures late_call_refused { (c : Shape) (h : List (Event ℕ)) → ¬ InOneOrder c h (late_call ∷ []) }
+    ensures early_point_refused { ¬ HasPoint early_point [] reading }
+    ensures late_point_refused { ¬ HasPoint late_point [] reading }
 {}

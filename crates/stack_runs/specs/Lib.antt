@@ -1,3 +1,5 @@
 pub mod Bounded
 pub mod Work
 pub mod Headline
+pub mod Full
+pub mod Ended

@@ -11,6 +11,7 @@ ghost use Rattle.stack_runs.specs.Headline.{Headline};
 /// All passes of a stack see one history of one bounded stack. This holds in any table that meets
 /// the rule of a stack, as each stack's does between any two atomic steps of any threads:
 /// - the history is legal. In it no value is lost, duplicated or reordered, and no put follows the close;
+/// - the values that this history leaves are those in the nodes along the links from the top;
 /// - each pass has seen a part of it, with all its own events. No two seats are of one pass, and of two
 ///   passes one has seen all that the other has;
 /// - no node is in two places;

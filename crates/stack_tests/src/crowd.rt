@@ -2,14 +2,14 @@
 
 ghost use Rattle.treiber_stack.specs.Stack.{IsPassOf};
 
-use bounded_model::Container;
+use bounded_model::{PutRefused, TakeRefused};
 use std::alloc::{AllocFailed, Global};
 use std::sync::Wait;
 use std::sync::atomic::{AtomicU64, Ordering};
 use std::thread;
 use tagged_index::{Limits, MAX_TAG};
 use treiber_stack::{Pass, Stack};
-use waiting::{put_waiting, take_all_until_closed, take_waiting};
+use waiting::wait_a_little;
 
 /// How many ranges of three values each of the two putting threads puts.
 const RANGES: u64 = 3_000;
@@ -54,6 +54,42 @@ impl Tally {
     }
 }
 
+// Puts a value, and waits while the stack is full. The call is the stack's own, and not one of
+// `waiting`, because passing a known container to generic code takes the prover half a minute.
+fn put_one<R: Wait>(rt: &R, stack: &Stack<u64>, by: Pass<u64>, value: u64) -> Pass<u64>
+    requires { IsPassOf stack.now by }
+    ensures { IsPassOf stack.now result }
+{
+    let mut pass = by;
+    for _ in rt.forever() {
+        let (back, put) = stack.put(rt, pass, value);
+        pass = back;
+        match put {
+            Err(PutRefused::Full(_)) => wait_a_little(),
+            _ => return pass,
+        }
+    }
+    unreachable!()
+}
+
+// Takes a value, and waits while the stack is empty. `None` if it is closed and empty.
+fn take_one<R: Wait>(rt: &R, stack: &Stack<u64>, by: Pass<u64>) -> (Pass<u64>, Option<u64>)
+    requires { IsPassOf stack.now by }
+    ensures { IsPassOf stack.now result.0 }
+{
+    let mut pass = by;
+    for _ in rt.forever() {
+        let (back, taken) = stack.take(rt, pass);
+        pass = back;
+        match taken {
+            Ok((value, _)) => return (pass, Some(value)),
+            Err(TakeRefused::Empty) => wait_a_little(),
+            Err(_) => return (pass, None),
+        }
+    }
+    unreachable!()
+}
+
 // Puts three values by one compare-and-swap if there is room. Values that found none go in one by
 // one, however often the stack is full.
 fn put_three<R: Wait>(rt: &R, stack: &Stack<u64>, by: Pass<u64>, first: u64) -> Pass<u64>
@@ -72,8 +108,7 @@ fn put_three<R: Wait>(rt: &R, stack: &Stack<u64>, by: Pass<u64>, first: u64) -> 
     }
     for place in &mut values {
         if let Some(value) = place.take() {
-            let (back, _) = put_waiting(stack, rt, pass, value);
-            pass = back;
+            pass = put_one(rt, stack, pass, value);
         }
     }
     pass
@@ -92,8 +127,15 @@ fn put_ranges<R: Wait>(rt: &R, stack: &Stack<u64>, by: Pass<u64>, first: u64)
 fn take_each<R: Wait>(rt: &R, stack: &Stack<u64>, by: Pass<u64>, tally: &Tally)
     requires { IsPassOf stack.now by }
 {
-    let count = |_counted: (), (value, _number): (u64, u64)| tally.count(value);
-    let _ = take_all_until_closed(stack, rt, by, (), count);
+    let mut pass = by;
+    for _ in rt.forever() {
+        let (back, taken) = take_one(rt, stack, pass);
+        pass = back;
+        match taken {
+            Some(value) => tally.count(value),
+            None => return,
+        }
+    }
 }
 
 // Takes one value and then all the rest by one fold, until the stack is closed and empty. Each turn
@@ -103,8 +145,8 @@ fn fold_each<R: Wait>(rt: &R, stack: &Stack<u64>, by: Pass<u64>, tally: &Tally)
 {
     let mut pass = by;
     for _ in 0..=6 * RANGES {
-        let (back, taken) = take_waiting(stack, rt, pass);
-        let Ok((value, _)) = taken else {
+        let (back, taken) = take_one(rt, stack, pass);
+        let Some(value) = taken else {
             return;
         };
         tally.count(value);

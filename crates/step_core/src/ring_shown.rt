@@ -15,7 +15,7 @@ ghost use Rattle.step_core.specs.ring.Law.{Lawful, AllDone, NoneUnanswered, line
 ghost use Rattle.step_core.specs.ring.Mistakes.{hands_with_cell, WinsHeld, cell_held, cell_held_twice, number_again, put_late, taken_early, slot_left_out, closed_full, put_after_close, take_after_shut, open_again, unshut_again, above_limit, not_full};
 ghost use Rattle.step_core.specs.ring.Object.{object, object_with_any_hands, answer};
 ghost use Rattle.step_core.specs.ring.WrongAnswers.{put_another, handed_back, closed_instead, counts_once, counted_two};
-ghost use Rattle.step_core.specs.ring.WrongRuns.{ends_where_it_lost, lost_take, is_always_empty, stale_take, spoils_where_it_lost, starving, in_turn, resting_hand, full_of_resting_hands, second_cell, full_of_its_own};
+ghost use Rattle.step_core.specs.ring.WrongRuns.{ends_where_it_lost, lost_take, is_always_empty, stale_take, spoils_where_it_lost, starving, in_turn, resting_hand, full_of_resting_hands, second_cell, full_of_its_own, full_of_another_call, spent_too_early};
 ghost use Rattle.step_core.specs.ring.Rows.{smallest, alone, alone_refused, closed_before_full, closed_before_spent, shut_ring, close_overtakes_put, put_overtakes_close, stopped_put, counts};
 ghost use Rattle.step_core.specs.ring.Orders.{limit_first, full_first, shut_last, empty_before_closed};
 
@@ -72,12 +72,14 @@ pub fn ring_near_misses()
     ensures lost_take_not_linearizable { ¬ LinearizableWithAnyHands (ring_with ends_where_it_lost (shape 1 1)) answer (object_with_any_hands 1 1) 3 lost_take }
     ensures stale_take_unlawful { ¬ Lawful ℕ 1 1 3 (after (ring_with is_always_empty (shape 1 1)) 2 stale_take) }
     ensures stale_take_not_linearizable { ¬ LinearizableWithAnyHands (ring_with is_always_empty (shape 1 1)) answer (object_with_any_hands 1 1) 2 stale_take }
-    // Courses that are no linearizations: hands of passes that are in no call, more cells than a call may have, and a
-    // refusal as full for the own cell.
+    // Courses that are no linearizations: hands of passes that are in no call, more cells than a call may have, refusals
+    // as full for a cell in a hand, and one as spent after a put too few.
     ensures resting_hand_refused { ¬ IsLinearization (object 1 1) resting_hand }
     ensures full_of_resting_hands_refused { ¬ IsLinearization (object 1 1) full_of_resting_hands }
     ensures second_cell_refused { ¬ IsLinearization (object 2 1) second_cell }
     ensures full_of_its_own_refused { ¬ IsLinearization (object 1 1) full_of_its_own }
+    ensures full_of_another_call_refused { ¬ IsLinearization (object 1 1) full_of_another_call }
+    ensures spent_too_early_refused { ¬ IsLinearization (object 2 1) spent_too_early }
     // A near miss that is not lock-free: two passes make each other fail, round after round.
     ensures starving_not_lock_free { ¬ LockFree (ring_with spoils_where_it_lost (shape 1 1)) 2 ((31 + 24 * 1) * 2) }
     ensures starving_not_unhindered { let machine = ring_with spoils_where_it_lost (shape 1 1) in

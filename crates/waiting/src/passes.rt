@@ -20,7 +20,7 @@ pub enum SplitRefused {
 }
 
 /// Splits off `count` passes. `NoMemory`: nothing was split off. `NoPass`: fewer were split off
-/// until no more could be, and these are joined again. Called in `example_jobs`.
+/// until no more could be, and these are joined again. Called in `examples::jobs`.
 pub fn split_many<T, C: Container<T>>(
     c: &C,
     alloc: Global,
@@ -50,7 +50,7 @@ pub fn split_many<T, C: Container<T>>(
 }
 
 /// Takes passes back, the first one first. The root has then seen what each of them has. Called in
-/// `waiting_tests`.
+/// `container_tests`.
 pub fn join_all<T, C: Container<T>>(c: &C, root: &mut C::Root, passes: Vec<C::Pass>)
     requires root { C.is_root c.now root.old }
     requires passes { All (C.is_pass c.now) passes.items }

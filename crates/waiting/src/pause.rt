@@ -7,7 +7,7 @@ use std::{hint, thread};
 const HINTS: u32 = 50;
 
 /// Lets the other threads run between two tries: 50 hints of the processor, and then a yield. For
-/// calls that are tried again by hand. Called in `bench_work`.
+/// calls that are tried again by hand. Called in `put_waiting` and `take_waiting`.
 #[inline]
 pub fn wait_a_little() {
     for _ in 0..HINTS {

@@ -15,7 +15,7 @@ use std::sync::Wait;
 /// `Closed` if the container is closed, `Spent` if a tag is at its limit.
 ///
 /// It is promised neither that the call returns, nor how soon. If the container stays full and
-/// nobody closes it, the call may wait forever. Called in `waiting_tests`.
+/// nobody closes it, the call may wait forever. Called in `container_tests`.
 pub fn put_waiting<T, C: Shared<T>, W: Wait>(
     c: &C,
     rt: &W,
@@ -32,7 +32,7 @@ pub fn put_waiting<T, C: Shared<T>, W: Wait>(
 }
 
 /// Puts one value as [`put_waiting`] does, and calls `before` before each try: to count the tries,
-/// or to hold them. Called in `waiting_tests`.
+/// or to hold them. Called in `container_tests`.
 pub fn put_waiting_with<T, C: Shared<T>, W: Wait, F: FnMut() + Drop>(
     c: &C,
     rt: &W,
@@ -72,7 +72,7 @@ pub fn put_waiting_with<T, C: Shared<T>, W: Wait, F: FnMut() + Drop>(
 /// of the values after it. An iterator without an end is put until a put is refused for good.
 ///
 /// It is promised neither that the call returns, nor how soon, as at [`put_waiting`]. Called in
-/// `example_pair`.
+/// `examples::pair`.
 pub fn put_all<T, C: Shared<T>, W: Wait, I: Iterator<Item = T>>(
     c: &C,
     rt: &W,

@@ -30,7 +30,7 @@ fn stop_of(refused: TakeRefused) -> Option<TakeStopped>
 /// the container is empty and closed, `Shut` if it is shut, `Spent` if a tag is at its limit.
 ///
 /// It is promised neither that the call returns, nor how soon. If the container stays empty and
-/// nobody closes or shuts it, the call may wait forever. Called in `waiting_tests`.
+/// nobody closes or shuts it, the call may wait forever. Called in `container_tests`.
 pub fn take_waiting<T, C: Shared<T>, W: Wait>(
     c: &C,
     rt: &W,
@@ -46,7 +46,7 @@ pub fn take_waiting<T, C: Shared<T>, W: Wait>(
 }
 
 /// Takes one value as [`take_waiting`] does, and calls `before` before each try: to count the tries,
-/// or to hold them. Called in `waiting_tests`.
+/// or to hold them. Called in `container_tests`.
 pub fn take_waiting_with<T, C: Shared<T>, W: Wait, F: FnMut() + Drop>(
     c: &C,
     rt: &W,
@@ -84,7 +84,7 @@ pub fn take_waiting_with<T, C: Shared<T>, W: Wait, F: FnMut() + Drop>(
 /// state, and why it stopped.
 ///
 /// It is promised neither that the call returns, nor how soon, as at [`take_waiting`]. Called in
-/// `example_pair`.
+/// `examples::pair`.
 pub fn take_all_until_closed<T, C: Shared<T>, W: Wait, S, F: Fn(S, (T, u64)) -> S + Drop>(
     c: &C,
     rt: &W,

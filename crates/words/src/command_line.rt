@@ -102,25 +102,31 @@ fn trace<'a>(alloc: Global) -> Arg<'a> {
 
 /// The words of a relay.
 pub fn relay<'a>(alloc: Global) -> Result<Command<'a>, AllocError> {
-    let files = Arg::new(alloc, "files")
-        .value_name("FILE")
-        .required(true)
-        .num_args(1..=MAX_FILES)
-        .action(ArgAction::Append)
-        .help("The files, 1 to 16 of them; file 1 is sender 0.\n- is standard input, once");
+    let args = vec![in alloc;
+        kind(alloc),
+        capacity(alloc),
+        consumers(alloc),
+        take(alloc),
+        close_after(alloc),
+        shut_after(alloc),
+        list(alloc),
+        stats(alloc),
+        files(alloc),
+    ]?;
     Command::new(alloc, "relay")
         .about(ABOUT_RELAY)
         .override_usage(RELAY_USAGE)
         .after_help(RELAY_EXAMPLE)
-        .arg(kind(alloc))?
-        .arg(capacity(alloc))?
-        .arg(consumers(alloc))?
-        .arg(take(alloc))?
-        .arg(close_after(alloc))?
-        .arg(shut_after(alloc))?
-        .arg(list(alloc))?
-        .arg(stats(alloc))?
-        .arg(files)
+        .args(args)
+}
+
+fn files<'a>(alloc: Global) -> Arg<'a> {
+    Arg::new(alloc, "files")
+        .value_name("FILE")
+        .required(true)
+        .num_args(1..=MAX_FILES)
+        .action(ArgAction::Append)
+        .help("The files, 1 to 16 of them; file 1 is sender 0.\n- is standard input, once")
 }
 
 fn kind<'a>(alloc: Global) -> Arg<'a> {

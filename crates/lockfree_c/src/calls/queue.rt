@@ -5,8 +5,8 @@ ghost use Rattle.ms_queue.specs.Gauging.{IsGauging};
 ghost use Rattle.ms_queue.specs.Queue.{machine_of};
 ghost use Rattle.lockfree_c.specs.Queues.{CountTried, GaugeTried, WorkedAtMost, count_steps, gauge_steps};
 
-use crate::calls::{BoundedCalls, Counts};
-use crate::steps::{QUEUE_COUNT, QUEUE_GAUGE, steps_for};
+use crate::calls::{AtOnce, BeginsAny, Counts, Ends, Gauges, Handled, Tries};
+use crate::steps::{QUEUE_CALL, QUEUE_COUNT, QUEUE_GAUGE, steps_for};
 use crate::work::{Said, Worked};
 use bounded_model::{Command, Reply, Stepped};
 use ms_queue::{AnyOp, GaugeOp, LenOp, Pass, Queue, QueueAt, Rest, Root};
@@ -42,10 +42,8 @@ fn gauge_on(queue: &Queue<u64>, op: GaugeOp<u64>, tries: u64) -> Worked<QueueWor
     }
 }
 
-impl BoundedCalls for Queue<u64> {
-    ghost use Rattle.lockfree_c.specs.Calls.{Begins};
-    ghost use Rattle.lockfree_c.specs.Queues.{Gauged, queue_reading};
-    ghost use Rattle.ms_queue.specs.Queue.{IsPassOf};
+impl Handled for Queue<u64> {
+    ghost use Rattle.lockfree_c.specs.Queues.{queue_reading};
 
     type Root = Root<u64>;
 
@@ -55,19 +53,11 @@ impl BoundedCalls for Queue<u64> {
 
     type Work = QueueWork;
 
-    type Rest = Rest<u64>;
-
-    const UNDISTURBED: u64 = 18;
-
-    const TO_EXCHANGE: u64 = 6;
-
-    ghost UNDISTURBED = { 18 };
-
-    ghost TO_EXCHANGE = { 6 };
-
     ghost reading = { queue_reading };
+}
 
-    ghost gauges = { Gauged };
+impl Ends for Queue<u64> {
+    type Rest = Rest<u64>;
 
     #[inline]
     fn split_off(&self, parent: &mut Root<u64>) -> Option<Pass<u64>> {
@@ -78,6 +68,34 @@ impl BoundedCalls for Queue<u64> {
     fn end_with(self, parent: Root<u64>) -> Rest<u64> {
         self.finish(parent)
     }
+}
+
+impl Tries for Queue<u64> {
+    ghost use Rattle.lockfree_c.specs.Queues.{queue_steps};
+
+    ghost steps = { queue_steps };
+
+    #[inline(never)]
+    fn try_on(
+        &self,
+        operation: AnyOp<u64>,
+        tries: u64,
+    ) -> Stepped<AnyOp<u64>, Pass<u64>, Reply<u64>> {
+        operation.run_for(self, steps_for(QUEUE_CALL, tries))
+    }
+
+    fn work_on(&self, work: QueueWork, tries: u64) -> Worked<QueueWork, Pass<u64>> {
+        match work {
+            QueueWork::Count(op) => count_on(self, op, tries),
+            QueueWork::Gauge(op) => gauge_on(self, op, tries),
+        }
+    }
+}
+
+impl BeginsAny for Queue<u64> {
+    ghost use Rattle.lockfree_c.specs.Calls.{Begins};
+    ghost use Rattle.lockfree_c.specs.Queues.{queue_reading};
+    ghost use Rattle.ms_queue.specs.Queue.{IsPassOf};
 
     #[inline(always)]
     fn begin(&self, by: Pass<u64>, command: Command<u64>) -> AnyOp<u64>
@@ -86,16 +104,9 @@ impl BoundedCalls for Queue<u64> {
     {
         self.begin(by, command)
     }
+}
 
-    #[inline]
-    fn run_for(
-        &self,
-        operation: AnyOp<u64>,
-        steps: u64,
-    ) -> Stepped<AnyOp<u64>, Pass<u64>, Reply<u64>> {
-        operation.run_for(self, steps)
-    }
-
+impl AtOnce for Queue<u64> {
     #[inline(always)]
     fn put_at_once(&self, by: Pass<u64>, value: u64) -> Stepped<AnyOp<u64>, Pass<u64>, Reply<u64>> {
         match self.put_at_once(by, value) {
@@ -119,13 +130,12 @@ impl BoundedCalls for Queue<u64> {
             Stepped::Done(back, said) => Stepped::Done(back, Reply::Look(said)),
         }
     }
+}
 
-    fn work_on(&self, work: QueueWork, tries: u64) -> Worked<QueueWork, Pass<u64>> {
-        match work {
-            QueueWork::Count(op) => count_on(self, op, tries),
-            QueueWork::Gauge(op) => gauge_on(self, op, tries),
-        }
-    }
+impl Gauges for Queue<u64> {
+    ghost use Rattle.lockfree_c.specs.Queues.{Gauged};
+
+    ghost gauges = { Gauged };
 
     fn gauge_for(&self, by: Pass<u64>, tries: u64) -> Worked<QueueWork, Pass<u64>> {
         gauge_on(self, self.begin_gauge(by), tries)

@@ -5,8 +5,8 @@ ghost use Rattle.ring_queue.specs.Gauging.{IsGauging};
 ghost use Rattle.ring_queue.specs.Ring.{machine_of};
 ghost use Rattle.lockfree_c.specs.Rings.{CountTried, GaugeTried, WorkedAtMost, count_steps, gauge_steps};
 
-use crate::calls::{BoundedCalls, Counts};
-use crate::steps::{RING_COUNT, RING_GAUGE, steps_for};
+use crate::calls::{AtOnce, BeginsAny, Counts, Ends, Gauges, Handled, Tries};
+use crate::steps::{RING_CALL, RING_COUNT, RING_GAUGE, steps_for};
 use crate::work::{Said, Worked};
 use bounded_model::{Command, Reply, Stepped};
 use ring_queue::{AnyOp, GaugeOp, LenOp, Pass, Rest, RingAt, RingQueue, Root};
@@ -42,10 +42,8 @@ fn gauge_on(ring: &RingQueue<u64>, op: GaugeOp<u64>, tries: u64) -> Worked<RingW
     }
 }
 
-impl BoundedCalls for RingQueue<u64> {
-    ghost use Rattle.lockfree_c.specs.Calls.{Begins};
-    ghost use Rattle.lockfree_c.specs.Rings.{Gauged, ring_reading};
-    ghost use Rattle.ring_queue.specs.Ring.{IsPassOf};
+impl Handled for RingQueue<u64> {
+    ghost use Rattle.lockfree_c.specs.Rings.{ring_reading};
 
     type Root = Root<u64>;
 
@@ -55,21 +53,11 @@ impl BoundedCalls for RingQueue<u64> {
 
     type Work = RingWork;
 
-    type Rest = Rest<u64>;
-
-    // The steps of a take, if the hint lags as far as it can and has moved meanwhile.
-    const UNDISTURBED: u64 = 17;
-
-    // The hint, four positions, and the exchange there.
-    const TO_EXCHANGE: u64 = 6;
-
-    ghost UNDISTURBED = { 17 };
-
-    ghost TO_EXCHANGE = { 6 };
-
     ghost reading = { ring_reading };
+}
 
-    ghost gauges = { Gauged };
+impl Ends for RingQueue<u64> {
+    type Rest = Rest<u64>;
 
     #[inline]
     fn split_off(&self, parent: &mut Root<u64>) -> Option<Pass<u64>> {
@@ -80,6 +68,34 @@ impl BoundedCalls for RingQueue<u64> {
     fn end_with(self, parent: Root<u64>) -> Rest<u64> {
         self.finish(parent)
     }
+}
+
+impl Tries for RingQueue<u64> {
+    ghost use Rattle.lockfree_c.specs.Rings.{ring_steps};
+
+    ghost steps = { ring_steps };
+
+    #[inline(never)]
+    fn try_on(
+        &self,
+        operation: AnyOp<u64>,
+        tries: u64,
+    ) -> Stepped<AnyOp<u64>, Pass<u64>, Reply<u64>> {
+        operation.run_for(self, steps_for(RING_CALL, tries))
+    }
+
+    fn work_on(&self, work: RingWork, tries: u64) -> Worked<RingWork, Pass<u64>> {
+        match work {
+            RingWork::Count(op) => count_on(self, op, tries),
+            RingWork::Gauge(op) => gauge_on(self, op, tries),
+        }
+    }
+}
+
+impl BeginsAny for RingQueue<u64> {
+    ghost use Rattle.lockfree_c.specs.Calls.{Begins};
+    ghost use Rattle.lockfree_c.specs.Rings.{ring_reading};
+    ghost use Rattle.ring_queue.specs.Ring.{IsPassOf};
 
     #[inline(always)]
     fn begin(&self, by: Pass<u64>, command: Command<u64>) -> AnyOp<u64>
@@ -88,16 +104,9 @@ impl BoundedCalls for RingQueue<u64> {
     {
         self.begin(by, command)
     }
+}
 
-    #[inline]
-    fn run_for(
-        &self,
-        operation: AnyOp<u64>,
-        steps: u64,
-    ) -> Stepped<AnyOp<u64>, Pass<u64>, Reply<u64>> {
-        operation.run_for(self, steps)
-    }
-
+impl AtOnce for RingQueue<u64> {
     #[inline(always)]
     fn put_at_once(&self, by: Pass<u64>, value: u64) -> Stepped<AnyOp<u64>, Pass<u64>, Reply<u64>> {
         match self.put_at_once(by, value) {
@@ -121,13 +130,12 @@ impl BoundedCalls for RingQueue<u64> {
             Stepped::Done(back, said) => Stepped::Done(back, Reply::Look(said)),
         }
     }
+}
 
-    fn work_on(&self, work: RingWork, tries: u64) -> Worked<RingWork, Pass<u64>> {
-        match work {
-            RingWork::Count(op) => count_on(self, op, tries),
-            RingWork::Gauge(op) => gauge_on(self, op, tries),
-        }
-    }
+impl Gauges for RingQueue<u64> {
+    ghost use Rattle.lockfree_c.specs.Rings.{Gauged};
+
+    ghost gauges = { Gauged };
 
     fn gauge_for(&self, by: Pass<u64>, tries: u64) -> Worked<RingWork, Pass<u64>> {
         gauge_on(self, self.begin_gauge(by), tries)

@@ -1,15 +1,14 @@
 //! A stack's calls and works: each makes its fast path and then a bounded number of steps.
-ghost use Rattle.std.specs.Prelude.{ℕ, List, Option};
+ghost use Rattle.std.specs.Prelude.{ℕ, List};
 ghost use Rattle.index_list.specs.declared.front.Front.{Front};
 ghost use Rattle.treiber_stack.specs.Copying.{IsCopying};
 ghost use Rattle.treiber_stack.specs.FoldOp.{IsFolding};
-ghost use Rattle.treiber_stack.specs.RangeTrying.{IsRanging};
 ghost use Rattle.treiber_stack.specs.Stack.{begun_of};
 ghost use Rattle.running.specs.Passes.{pass_in};
-ghost use Rattle.lockfree_c.specs.Stacks.{CopiedOn, FoldTried, RangeTook, RangeTried, RangeWorkedAtMost, WorkedAtMost, bulk_steps};
+ghost use Rattle.lockfree_c.specs.Stacks.{CopiedOn, FoldTried, WorkedAtMost, bulk_steps};
 
-use crate::calls::BoundedCalls;
-use crate::steps::{STACK_BULK, steps_for};
+use crate::calls::{AtOnce, BeginsAny, Ends, Gauges, Handled, Tries};
+use crate::steps::{STACK_BULK, STACK_CALL, steps_for};
 use crate::work::{Said, Worked};
 use bounded_model::{Command, Reply, Stepped};
 use treiber_stack::{AnyOp, FoldMade, FoldOp, Pass, RangeOp, Rest, Root, Stack, StackAt};
@@ -19,10 +18,6 @@ use treiber_stack::{AnyOp, FoldMade, FoldOp, Pass, RangeOp, Rest, Root, Stack, S
 pub enum StackWork {
     /// A fold of all values.
     Fold(FoldOp<u64>),
-    /// A range that C gives value by value, each in a place. It makes no call before its put.
-    Range(Pass<u64>, Vec<Option<u64>>),
-    /// The put of a range. A value that is in a node is not in its place.
-    RangePut(RangeOp<u64>, Vec<Option<u64>>),
     /// A put of an array of C's, which keeps the array, and gives it again to continue the put.
     Copy(RangeOp<u64>),
 }
@@ -38,28 +33,6 @@ pub fn fold_on(stack: &Stack<u64>, op: FoldOp<u64>, tries: u64) -> Worked<StackW
         FoldMade::Again(op) => Worked::Again(StackWork::Fold(op)),
         FoldMade::Value(value, op) => Worked::Value(value, StackWork::Fold(op)),
         FoldMade::Done(by, said) => Worked::Done(by, Said::Fold(said)),
-    }
-}
-
-/// Continues a put of the values in these places.
-pub fn range_on(
-    stack: &Stack<u64>,
-    op: RangeOp<u64>,
-    values: Vec<Option<u64>>,
-    tries: u64,
-) -> Worked<StackWork, Pass<u64>>
-    requires { (vs : List ℕ) × IsRanging stack.now vs values.items op }
-    ensures tried { (left : List (Option ℕ)) × ((vs : List ℕ) → IsRanging stack.now vs values.items op
-        → RangeTried stack.now vs (begun_of stack.now op.pass) left result) }
-    ensures took { RangeTook (bulk_steps tries) op result }
-    ensures most { (vs : List ℕ) → IsRanging stack.now vs values.items op
-        → RangeWorkedAtMost (bulk_steps tries) vs (pass_in op.pass) result }
-{
-    let mut values = values;
-    let made = stack.run_range_for(op, &mut values, steps_for(STACK_BULK, tries));
-    match made {
-        Stepped::Again(op) => Worked::Again(StackWork::RangePut(op, values)),
-        Stepped::Done(by, said) => Worked::Done(by, Said::Range(said)),
     }
 }
 
@@ -79,10 +52,8 @@ pub fn copy_on(
     }
 }
 
-impl BoundedCalls for Stack<u64> {
-    ghost use Rattle.lockfree_c.specs.Calls.{Begins};
-    ghost use Rattle.lockfree_c.specs.Stacks.{Gauged, stack_reading};
-    ghost use Rattle.treiber_stack.specs.Stack.{IsPassOf};
+impl Handled for Stack<u64> {
+    ghost use Rattle.lockfree_c.specs.Stacks.{stack_reading};
 
     type Root = Root<u64>;
 
@@ -92,19 +63,11 @@ impl BoundedCalls for Stack<u64> {
 
     type Work = StackWork;
 
-    type Rest = Rest<u64>;
-
-    const UNDISTURBED: u64 = 10;
-
-    const TO_EXCHANGE: u64 = 3;
-
-    ghost UNDISTURBED = { 10 };
-
-    ghost TO_EXCHANGE = { 3 };
-
     ghost reading = { stack_reading };
+}
 
-    ghost gauges = { Gauged };
+impl Ends for Stack<u64> {
+    type Rest = Rest<u64>;
 
     #[inline]
     fn split_off(&self, parent: &mut Root<u64>) -> Option<Pass<u64>> {
@@ -115,6 +78,34 @@ impl BoundedCalls for Stack<u64> {
     fn end_with(self, parent: Root<u64>) -> Rest<u64> {
         self.finish(parent)
     }
+}
+
+impl Tries for Stack<u64> {
+    ghost use Rattle.lockfree_c.specs.Stacks.{stack_steps};
+
+    ghost steps = { stack_steps };
+
+    #[inline(never)]
+    fn try_on(
+        &self,
+        operation: AnyOp<u64>,
+        tries: u64,
+    ) -> Stepped<AnyOp<u64>, Pass<u64>, Reply<u64>> {
+        operation.run_for(self, steps_for(STACK_CALL, tries))
+    }
+
+    fn work_on(&self, work: StackWork, tries: u64) -> Worked<StackWork, Pass<u64>> {
+        match work {
+            StackWork::Fold(op) => fold_on(self, op, tries),
+            StackWork::Copy(op) => Worked::Waits(StackWork::Copy(op)),
+        }
+    }
+}
+
+impl BeginsAny for Stack<u64> {
+    ghost use Rattle.lockfree_c.specs.Calls.{Begins};
+    ghost use Rattle.lockfree_c.specs.Stacks.{stack_reading};
+    ghost use Rattle.treiber_stack.specs.Stack.{IsPassOf};
 
     #[inline(always)]
     fn begin(&self, by: Pass<u64>, command: Command<u64>) -> AnyOp<u64>
@@ -123,16 +114,9 @@ impl BoundedCalls for Stack<u64> {
     {
         self.begin(by, command)
     }
+}
 
-    #[inline]
-    fn run_for(
-        &self,
-        operation: AnyOp<u64>,
-        steps: u64,
-    ) -> Stepped<AnyOp<u64>, Pass<u64>, Reply<u64>> {
-        operation.run_for(self, steps)
-    }
-
+impl AtOnce for Stack<u64> {
     #[inline(always)]
     fn put_at_once(&self, by: Pass<u64>, value: u64) -> Stepped<AnyOp<u64>, Pass<u64>, Reply<u64>> {
         match self.put_at_once(by, value) {
@@ -156,14 +140,12 @@ impl BoundedCalls for Stack<u64> {
             Stepped::Done(back, said) => Stepped::Done(back, Reply::Look(said)),
         }
     }
+}
 
-    fn work_on(&self, work: StackWork, tries: u64) -> Worked<StackWork, Pass<u64>> {
-        match work {
-            StackWork::Fold(op) => fold_on(self, op, tries),
-            StackWork::RangePut(op, values) => range_on(self, op, values, tries),
-            other => Worked::Waits(other),
-        }
-    }
+impl Gauges for Stack<u64> {
+    ghost use Rattle.lockfree_c.specs.Stacks.{Gauged};
+
+    ghost gauges = { Gauged };
 
     // One load of the top.
     fn gauge_for(&self, by: Pass<u64>, _tries: u64) -> Worked<StackWork, Pass<u64>> {

@@ -1,10 +1,12 @@
 //! A walk along the positions.
-ghost use Rattle.std.specs.Prelude.{◌≡◌, ◌+◌, ◌*◌, ◌<◌, ◌≤◌, ◌==◌};
+ghost use Rattle.std.specs.Prelude.{◌≡◌, ◌+◌, ◌*◌, ◌<◌, ◌==◌};
 ghost use Rattle.tagged_index.specs.Fields.{fields_of, index_of, kept, raised as raised_by, tag_of};
 ghost use Rattle.tagged_index.specs.declared.word.TheConstants.{MAX_TAG, NULL};
 ghost use Rattle.ring_machine.specs.Machine.{behind, stride};
-ghost use Rattle.ring_table.specs.Layout.{slot_at, spread};
+ghost use Rattle.ring_table.specs.Layout.{slot_at};
+ghost use Rattle.ring_queue.specs.Ring.{room_of};
 
+use crate::life::ring::RingQueue;
 use crate::life::spare::Spare;
 use ring_table::layout;
 use running::raised;
@@ -21,40 +23,28 @@ pub struct Walk {
     pub(crate) at: Tagged,
     /// How many positions it has passed.
     pub(crate) gone: u32,
-    /// How many slots the ring has. The ring knows it too, but after each atomic step the compiler
-    /// would read it there anew.
-    pub(crate) room: u32,
-    /// How far apart the words of two slots are, and the word after that of the last slot. Kept, for
-    /// the same reason.
-    pub(crate) apart: usize,
-    pub(crate) end: usize,
-    /// The word of the slot at that position.
+    /// The word of the slot at that position. The next one is found from it, with the ring's `apart`
+    /// and `end`: these stay in the ring, since a register for each would cost a store at each call.
     pub(crate) place: usize,
     /// The tag of that slot if it is empty at the position's lap.
     pub(crate) empty: u64,
-    pub ghost spreads: { apart ≡ spread room },
-    pub ghost ends: { end ≡ slot_at room room },
-    pub ghost placed: { place ≡ slot_at room (index_of at) },
     pub ghost lapped: { empty ≡ 2 * tag_of at },
 }
 
 impl Walk {
-    /// A walk from this hint, in a ring of this number of slots.
+    /// A walk from this hint.
     #[inline(always)]
-    pub(crate) fn from(spare: Spare, hint: Tagged, room: u32) -> Walk
-        requires { room ≤ NULL }
-        ensures { (result.spare ≡ spare) × (result.from ≡ hint) × (result.at ≡ hint)
-            × (result.gone ≡ 0) × (result.room ≡ room) }
+    pub(crate) fn from<T>(on: &RingQueue<T>, spare: Spare, hint: Tagged) -> Walk
+        ensures start { (result.spare ≡ spare) × (result.from ≡ hint) × (result.at ≡ hint)
+            × (result.gone ≡ 0) }
+        ensures place { result.place ≡ slot_at (room_of on.now) (index_of hint) }
     {
         Walk {
             spare,
             from: hint,
             at: hint,
             gone: 0,
-            room,
-            apart: layout::spread(room),
-            end: layout::words(room),
-            place: layout::slot(room, hint.index()),
+            place: layout::FIRST_SLOT + on.apart * hint.index() as usize,
             empty: 2 * hint.tag(),
         }
     }
@@ -63,16 +53,13 @@ impl Walk {
     #[inline(always)]
     pub(crate) fn with(self, spare: Spare) -> Walk
         ensures { (result.spare ≡ spare) × (result.from ≡ self.from) × (result.at ≡ self.at)
-            × (result.gone ≡ self.gone) × (result.room ≡ self.room) }
+            × (result.gone ≡ self.gone) × (result.place ≡ self.place) }
     {
         Walk {
             spare,
             from: self.from,
             at: self.at,
             gone: self.gone,
-            room: self.room,
-            apart: self.apart,
-            end: self.end,
             place: self.place,
             empty: self.empty,
         }
@@ -80,32 +67,31 @@ impl Walk {
 
     // Whether its slot is the last.
     #[inline(always)]
-    fn is_last(&self) -> bool
-        requires { (index_of self.now.at < self.now.room) × (self.now.room ≤ NULL) }
-        ensures { result ≡ (index_of self.now.at + 1 == self.now.room) }
+    fn is_last<T>(&self, on: &RingQueue<T>) -> bool
+        requires at { index_of self.now.at < room_of on.now }
+        requires place { self.now.place ≡ slot_at (room_of on.now) (index_of self.now.at) }
+        ensures { result ≡ (index_of self.now.at + 1 == room_of on.now) }
     {
-        self.place + self.apart == self.end
+        self.place + on.apart == on.end
     }
 
     /// The walk at the next position.
     #[inline(always)]
-    pub(crate) fn further(self) -> Walk
-        requires at { (index_of self.at < self.room) × (self.room ≤ NULL)
-            × (tag_of self.at < MAX_TAG) }
+    pub(crate) fn further<T>(self, on: &RingQueue<T>) -> Walk
+        requires at { (index_of self.at < room_of on.now) × (tag_of self.at < MAX_TAG) }
+        requires place { self.place ≡ slot_at (room_of on.now) (index_of self.at) }
         requires gone { self.gone < stride }
-        ensures at { fields_of result.at ≡ behind self.room (fields_of self.at) }
+        ensures at { fields_of result.at ≡ behind (room_of on.now) (fields_of self.at) }
+        ensures place { result.place ≡ slot_at (room_of on.now) (index_of result.at) }
         ensures same { (result.spare ≡ self.spare) × (result.from ≡ self.from)
-            × (result.room ≡ self.room) × (result.gone ≡ self.gone + 1) }
+            × (result.gone ≡ self.gone + 1) }
     {
-        let last = self.is_last();
+        let last = self.is_last(on);
         let Walk {
             spare,
             from,
             at,
             gone,
-            room,
-            apart,
-            end,
             place,
             empty,
         } = self;
@@ -115,9 +101,6 @@ impl Walk {
                 from,
                 at: around(at),
                 gone: gone + 1,
-                room,
-                apart,
-                end,
                 place: layout::FIRST_SLOT,
                 empty: empty + 2,
             }
@@ -127,10 +110,7 @@ impl Walk {
                 from,
                 at: following(at),
                 gone: gone + 1,
-                room,
-                apart,
-                end,
-                place: place + apart,
+                place: place + on.apart,
                 empty,
             }
         }

@@ -105,7 +105,7 @@ pub(crate) fn walk_on<T>(
     match at {
         WalkAt::LoadHint(spare) => {
             let hint = Tagged::from_word(outcome.word);
-            let walk = Walk::from(spare, hint, on.limits.capacity());
+            let walk = Walk::from(on, spare, hint);
             Next::On(WalkAt::LoadSlot(walk))
         }
         WalkAt::LoadSlot(walk) => {
@@ -113,7 +113,7 @@ pub(crate) fn walk_on<T>(
             if slot.tag() <= walk.empty + full {
                 return Next::Done(Found { walk, slot });
             }
-            let further = walk.further();
+            let further = walk.further(on);
             if further.gone == STRIDE {
                 return Next::On(WalkAt::MoveHint(further));
             }

@@ -13,11 +13,13 @@ ghost use Rattle.bounded_model.specs.declared.views.Answered.TheVariants.{
 };
 ghost use Rattle.running.specs.Kept.{HasNewCall, WasRun};
 ghost use Rattle.running.specs.Ops.{underway_of};
+ghost use Rattle.running.specs.declared.code.Next.TheVariants.{On};
 ghost use Rattle.ring_queue.specs.Calls.{is_call};
 ghost use Rattle.ring_queue.specs.Walking.{full_of, hint_of};
 ghost use Rattle.ring_queue.specs.Closing.{
   IsClosing,
   IsShutting,
+  MarkRan,
   aim_of,
   is_set,
   mark_account,
@@ -141,6 +143,7 @@ impl<T> RingQueue<T> {
         ensures makes { IsClosing self.now result }
         ensures begun { underway_of (machine_of self.now) result.pass ≡ no_step (pass_in by) }
         ensures pass { result.pass ≡ by.pass }
+        ensures ran { MarkRan self.now result.operation by.pass result.pass (On result.at) }
     {
         let Pass { pass, kept } = by;
         let begun = MarkAt::Walking(Mark::Closed, WalkAt::LoadHint(kept));
@@ -175,6 +178,7 @@ impl<T> RingQueue<T> {
         ensures makes { IsShutting self.now result }
         ensures begun { underway_of (machine_of self.now) result.pass ≡ no_step (pass_in by) }
         ensures pass { result.pass ≡ by.pass }
+        ensures ran { MarkRan self.now result.operation by.pass result.pass (On result.at) }
     {
         let Pass { pass, kept } = by;
         let begun = MarkAt::Walking(Mark::Shut, WalkAt::LoadHint(kept));

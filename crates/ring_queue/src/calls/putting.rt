@@ -11,11 +11,12 @@ ghost use Rattle.ring_machine.specs.declared.lines.Call.TheVariants.{Put as Call
 ghost use Rattle.ring_table.specs.Lines.{call_of};
 ghost use Rattle.ring_queue.specs.Calls.{is_call, put_of};
 ghost use Rattle.ring_queue.specs.Putting.{IsPutting, has_room, put_account, refused_at};
+ghost use Rattle.ring_queue.specs.Refusals.{FullTells, FullTried, SpentTells, SpentTried};
 ghost use Rattle.ring_queue.specs.Ring.{IsPassOf, laps_of, machine_of, pass_in, shape_of};
 ghost use Rattle.ring_queue.specs.Trying.{PutTried};
 
 use crate::call_parts::walking::{
-    Found, STRIDE, Walk, WalkAt, behind, place_of, slot_of, walk_access, walk_on,
+    Found, STRIDE, Walk, WalkAt, behind, place_of, walk_access, walk_on,
 };
 use crate::fast_paths::put_fast::put_fast;
 use crate::life::ring::{Answered, Pass, RingQueue};
@@ -75,20 +76,15 @@ fn refused<T>(walk: &Walk, slot: Tagged, value: T) -> PutRefused<T>
     PutRefused::Full(value)
 }
 
-// The greatest tag of a slot: each lap raises it by two.
-#[inline(always)]
-fn tag_limit<T>(on: &RingQueue<T>) -> u64
-    ensures { result ≡ 2 * laps_of on.now }
-{
-    on.limits.tag_limit() / 2 * 2
-}
-
-// Whether a value may be put at the back: the ring is open, and the slot is empty and not worn.
+// Whether a value may be put at the back: the ring is open, and the slot is empty and not worn. The
+// tag of an empty slot is even, so an odd tag limit allows no more than the even one below it.
 #[inline(always)]
 fn has_room<T>(on: &RingQueue<T>, end: &Found) -> bool
     ensures { result ≡ has_room (laps_of on.now) end.now.walk.at end.now.slot }
 {
-    !end.slot.is_marked() && end.slot.tag() == end.walk.empty && end.slot.tag() + 1 < tag_limit(on)
+    !end.slot.is_marked()
+        && end.slot.tag() == end.walk.empty
+        && end.slot.tag() + 1 < on.limits.tag_limit()
 }
 
 impl<T> RingQueue<T> {
@@ -107,9 +103,10 @@ impl<T> RingQueue<T> {
 
     /// Puts a value. The call retries while others interfere.
     /// - `Ok`: the put's number. Puts count 0, 1, 2, ….
-    /// - `Full`: the ring was open, and each cell held a value or was in a pass's hand.
+    /// - `Full`: the ring was open, and each slot held a value.
     /// - `Closed`: it was closed.
-    /// - `Spent`: it is worn out for good. The word is `Next`, with the slot at the back.
+    /// - `Spent`: it is worn out for good, because each slot was filled in each lap. The word is
+    ///   `Next`, with the slot at the back.
     ///
     /// Each refusal hands the value back. The call was a run of the machine's steps.
     #[inline(always)]
@@ -123,6 +120,8 @@ impl<T> RingQueue<T> {
         ensures of { IsPassOf self.now result.0 }
         ensures gives { PutGives (shape_of self.now) (pass_in by) value (pass_in result.0)
             result.1 }
+        ensures full { FullTells self.now (pass_in by) (pass_in result.0) result.1 }
+        ensures spent { SpentTells self.now (pass_in by) (pass_in result.0) result.1 }
         ensures answered { Answers (pass_in by) (pass_in result.0) (put_answered result.1) }
         ensures ran { WasRun (machine_of self.now) (put_account self.now.table.shared.key)
             (is_call (PutCall value)) (pass_in by) result.0 result.1 }
@@ -146,6 +145,8 @@ impl<T> RingQueue<T> {
     ) -> Stepped<PutOp<T>, Pass<T>, Result<u64, PutRefused<T>>>
         requires { IsPassOf self.now by }
         ensures gives { PutTried self.now value (pass_in by) result }
+        ensures full { FullTried self.now (pass_in by) result }
+        ensures spent { SpentTried self.now (pass_in by) result }
         ensures took { MatchStepped result (λ op. (pass_now op.pass).steps ≤ (pass_in by).steps + 11)
             (λ back answer. (pass_in back).steps ≤ (pass_in by).steps + 11) }
     {
@@ -181,7 +182,7 @@ impl<T> Code<RingQueue<T>, T, SeatLine<T>, Operation<T>, Ringed, Answered<Answer
                 Access::Return(end.walk.place, end.slot, new)
             }
             PutAt::PassTail(_, walk) => Access::Swap(TAIL, walk.from, behind(on, walk.at)),
-            PutAt::Stow(walk, _) => Access::Stow(slot_of(on, walk.at)),
+            PutAt::Stow(walk, _) => Access::Stow(walk.place),
         }
     }
 
@@ -198,7 +199,7 @@ impl<T> Code<RingQueue<T>, T, SeatLine<T>, Operation<T>, Ringed, Answered<Answer
                 let shown = Snapshot::of(&value);
                 put_in(&on.table.shared, seat, spare.index, value);
                 let hint = Tagged::from_word(outcome.word);
-                let walk = Walk::from(spare, hint, on.limits.capacity());
+                let walk = Walk::from(on, spare, hint);
                 Next::On(PutAt::Walking(shown, WalkAt::LoadSlot(walk)))
             }
             PutAt::Walking(shown, at) => match walk_on(on, 0, at, outcome) {

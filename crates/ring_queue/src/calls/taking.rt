@@ -14,7 +14,7 @@ ghost use Rattle.std.specs.Prelude.{◌≡◌, ◌≤◌, ◌+◌};
 ghost use Rattle.ring_queue.specs.Taking.{refusal_at};
 
 use crate::call_parts::walking::{
-    Found, STRIDE, Walk, WalkAt, behind, place_of, slot_of, walk_access, walk_on,
+    Found, STRIDE, Walk, WalkAt, behind, place_of, walk_access, walk_on,
 };
 use crate::fast_paths::take_fast::take_fast;
 use crate::life::ring::{Answered, Pass, RingQueue};
@@ -148,7 +148,7 @@ impl<T> Code<RingQueue<T>, T, SeatLine<T>, Operation<T>, Ringed, Answered<Answer
                 Access::Bring(end.walk.place, end.slot, new)
             }
             TakeAt::PassHead(walk, _) => Access::Swap(HEAD, walk.from, behind(on, walk.at)),
-            TakeAt::Stow(walk, _) => Access::Stow(slot_of(on, walk.at)),
+            TakeAt::Stow(walk, _) => Access::Stow(walk.place),
         }
     }
 

@@ -63,6 +63,12 @@ impl<T> RingQueue<T> {
         let (table, seat) = Table::vacant(alloc, words.as_slice(), count, &limits)?;
         let root = running::Root { seat, out: 0 };
         let stock = spares;
-        Ok((RingQueue { table, limits }, Root { root, stock }))
+        let ring = RingQueue {
+            table,
+            limits,
+            apart: layout::spread(capacity),
+            end: layout::words(capacity),
+        };
+        Ok((ring, Root { root, stock }))
     }
 }

@@ -1,7 +1,7 @@
 //! The ring, its passes and its root.
 ghost use Rattle.std.specs.Prelude.{◌≡◌, ◌+◌, ◌<◌, ◌≤◌};
 ghost use Rattle.bounded_model.specs.declared.container.TheConstants.{MIN_PASSES, MAX_PASSES};
-ghost use Rattle.ring_table.specs.Layout.{words_for};
+ghost use Rattle.ring_table.specs.Layout.{spread, words_for};
 ghost use Rattle.tagged_index.specs.Limits.{capacity_of, passes_of};
 ghost use Rattle.tagged_index.specs.declared.word.TheConstants.{NULL};
 
@@ -28,7 +28,13 @@ pub struct RingQueue<T> {
     >,
     /// What it was made with: the key of its table.
     pub limits: Limits,
+    /// How far apart the words of two slots are. Kept, so that no walk computes it.
+    pub(crate) apart: usize,
+    /// The word after that of the last slot. Kept for the same reason.
+    pub(crate) end: usize,
     pub ghost keyed: { table.shared.key ≡ limits },
+    pub ghost spreads: { apart ≡ spread (capacity_of table.shared.key) },
+    pub ghost ends: { end ≡ words_for (capacity_of table.shared.key) },
     pub ghost some_word: { 0 < table.shared.table_id.words },
     pub ghost words: { table.shared.table_id.words ≡ words_for (capacity_of table.shared.key) },
     pub ghost slots: { table.shared.table_id.slots

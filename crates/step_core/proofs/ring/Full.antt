@@ -14,7 +14,7 @@ module _ {T : Type 0} where
   pub is_full : (n laps p : ℕ) (v u : T) (newer older : List (Entry T (Call T) (Answer T))) → IsLinearization (object n laps) (newer ++ full_put p v u ∷ older) → n < length (state n laps (events older)).values + most_in_hand (object n laps) older
   is_full n laps p v u newer older run =
       let r = run_before (object n laps) newer (full_put p v u ∷ older) run in
-      let f : n + 1 ≤ length (state n laps (events older)).values + most_in_hand (object n laps) older = full (object n laps) older r.2 p (CallPut v) r.0 r.1.2 r.1.1.0 in
+      let f : n + 1 ≤ length (state n laps (events older)).values + most_in_hand (object n laps) older = full (object n laps) older r.2 p (CallPut v) r.0 r.1.2 r.1.1.0.0 in
       omega (arith, f)
 
   pub few_of : (call : Call T) → most call ≤ 1

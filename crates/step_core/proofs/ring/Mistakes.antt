@@ -82,5 +82,5 @@ one_value = Put 0 (10 ∷ []) 0 ∷ Hold 0 ∷ []
 pub not_full-unlawful : ¬ Lawful ℕ 2 2 3 not_full
 not_full-unlawful law =
     let right = at_once one_value _ (law.answered 0 (record { line = ends 0 put_full; call = some (CallPut 11); begun = one_value; seen = one_value }) 0 put_full refl refl) in
-    let no : 1 ≡ 2 = right.0 in
+    let no : 1 ≡ 2 = right.1 in
     absurd (omega (arith, no))

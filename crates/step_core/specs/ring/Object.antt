@@ -11,7 +11,7 @@ use Rattle.ring_machine.specs.declared.lines.Answer.{Answer}
 use Rattle.ring_machine.specs.declared.lines.Answer.TheVariants.{Put as AnswerPut, Take as AnswerTake, Close as AnswerClose, Shut as AnswerShut, Look as AnswerLook, Len as AnswerLen, Gauge as AnswerGauge}
 use Rattle.ring_machine.specs.declared.lines.Line.{Line}
 use Rattle.ring_machine.specs.declared.lines.Line.TheVariants.{Idle}
-use Rattle.ring_machine.specs.Answers.{shape, state, IsGauged}
+use Rattle.ring_machine.specs.Answers.{shape, state, IsFullNow, IsGauged, IsSpentNow}
 use Rattle.step_core.specs.Linearizable.{Object, Entry, Reads}
 
 module _ {T : Type 0} where
@@ -32,9 +32,9 @@ module _ {T : Type 0} where
   -- an operation that reads the ring: the answer is right in the state at the end of this history, which does not change. A refused put
   -- hands its value back
   abbrev pub IsSaidWithAnyHands : ℕ → ℕ → List (Event T) → Call T → Answer T → Type 0
-  IsSaidWithAnyHands n laps h (CallPut v) (AnswerPut (Err (Full u))) = (u ≡ v) × right.Justifies (shape n laps) h right.PutFull
+  IsSaidWithAnyHands n laps h (CallPut v) (AnswerPut (Err (Full u))) = (u ≡ v) × IsFullNow n laps h
   IsSaidWithAnyHands n laps h (CallPut v) (AnswerPut (Err (Closed u))) = (u ≡ v) × right.Justifies (shape n laps) h right.PutClosed
-  IsSaidWithAnyHands n laps h (CallPut v) (AnswerPut (Err (Spent u word t))) = (u ≡ v) × right.Justifies (shape n laps) h (right.PutSpent word t)
+  IsSaidWithAnyHands n laps h (CallPut v) (AnswerPut (Err (Spent u word t))) = (u ≡ v) × IsSpentNow n laps word t h
   IsSaidWithAnyHands n laps h CallTake (AnswerTake (Err why)) = right.Justifies (shape n laps) h (right.take_answer why)
   IsSaidWithAnyHands n laps h CallClose (AnswerClose false) = right.Justifies (shape n laps) h right.NotClosed
   IsSaidWithAnyHands n laps h CallShut (AnswerShut false) = right.Justifies (shape n laps) h right.NotShut
@@ -43,9 +43,9 @@ module _ {T : Type 0} where
   IsSaidWithAnyHands n laps h CallGauge (AnswerGauge closed used) = IsGauged n laps closed used h
   IsSaidWithAnyHands n laps h call a = ⊥
 
-  -- the same by pass p, whose put has no cell itself if it is refused as full: each cell holds a value or is in another pass's hand
+  -- the same by pass p, whose put has no cell itself if it is refused as full
   abbrev pub IsSaid : ℕ → ℕ → ℕ → List (Event T) → Call T → Answer T → Type 0
-  IsSaid n laps p h (CallPut v) (AnswerPut (Err (Full u))) = (u ≡ v) × right.Justifies (shape n laps) h right.PutFull × ((state n laps h).hand p ≡ 0)
+  IsSaid n laps p h (CallPut v) (AnswerPut (Err (Full u))) = (u ≡ v) × IsFullNow n laps h × ((state n laps h).hand p ≡ 0)
   IsSaid n laps p h call a = IsSaidWithAnyHands n laps h call a
 
   -- the ring of n slots

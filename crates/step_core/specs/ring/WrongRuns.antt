@@ -1,9 +1,10 @@
 -- What linearizability and lock-freedom refuse: machines that are nearly the ring's, each with a schedule.
+use mathlib.Core.Option.{some}
 use Rattle.std.specs.Prelude.{ℕ, not, if◌then◌else◌, ◌++◌, Err, List, [], ◌∷◌}
 use Rattle.bounded_model.specs.declared.answers.TakeRefused.TheVariants.{Empty}
-use Rattle.bounded_model.specs.declared.history.Event.TheVariants.{Hold}
+use Rattle.bounded_model.specs.declared.history.Event.TheVariants.{Hold, Put}
 use Rattle.ring_machine.specs.declared.lines.Answer.{Answer}
-use Rattle.step_core.specs.Linearizable.{Entry, Invokes, Hand}
+use Rattle.step_core.specs.Linearizable.{Entry, Hand, Invokes, Reads, Responds, Updates}
 use Rattle.step_core.specs.ring.Object.{full_put}
 use Rattle.machine.specs.Schedule.{Schedule, after}
 use Rattle.machine.specs.Words.{same}
@@ -16,7 +17,7 @@ use Rattle.ring_machine.specs.declared.lines.Line.TheVariants.{LoadBack, MarkBac
 use Rattle.ring_machine.specs.Machine.{State, step, resting, after_slot, goes_on, ends}
 use Rattle.ring_machine.specs.Answers.{shape}
 use Rattle.step_core.specs.Acts.{begins, steps, rounds}
-use Rattle.step_core.specs.ring.Cast.{Moves, ring_with}
+use Rattle.step_core.specs.ring.Cast.{Moves, put_is, ring_with, slot_spent}
 
 -- A take that loses its exchange ends without an answer
 abbrev pub ends_where_it_lost : Moves
@@ -70,3 +71,14 @@ second_cell = Hand (Hold 1) ∷ Hand (Hold 1) ∷ Invokes 1 (CallPut 10) ∷ []
 -- pass 0 is refused for its own cell
 abbrev pub full_of_its_own : List (Entry ℕ (Call ℕ) (Answer ℕ))
 full_of_its_own = full_put 0 10 10 ∷ Hand (Hold 0) ∷ Invokes 0 (CallPut 10) ∷ []
+
+-- pass 0 is refused for the cell of a put that is under way, though nothing is stored
+abbrev pub full_of_another_call : List (Entry ℕ (Call ℕ) (Answer ℕ))
+full_of_another_call = full_put 0 10 10 ∷ Invokes 0 (CallPut 10) ∷ Hand (Hold 1) ∷ Invokes 1 (CallPut 10) ∷ []
+
+-- A ring of two slots, each of which can be filled once, is spent after one put
+abbrev pub one_put : List (Entry ℕ (Call ℕ) (Answer ℕ))
+one_put = Responds 1 (some (put_is 0)) ∷ Updates (record { by = 1; call = CallPut 10; answer = put_is 0 }) (Put 1 (10 ∷ []) 0) ∷ Hand (Hold 1) ∷ Invokes 1 (CallPut 10) ∷ []
+
+abbrev pub spent_too_early : List (Entry ℕ (Call ℕ) (Answer ℕ))
+spent_too_early = Reads (record { by = 0; call = CallPut 11; answer = slot_spent 1 1 11 }) ∷ Invokes 0 (CallPut 11) ∷ one_put

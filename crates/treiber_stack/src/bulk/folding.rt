@@ -81,7 +81,7 @@ pub(crate) enum FoldStop<T> {
 impl<T> Stack<T> {
     /// Takes all values by one compare-and-swap, and folds them from the top down. Returns the last
     /// state. A refusal is as that of a take, and returns the state that was handed in. Called in
-    /// `example_buffers`.
+    /// `examples::buffers`.
     pub fn fold_all_atomic<R: Wait, S, F: Fn(S, T) -> S + Drop>(
         &self,
         rt: &R,

@@ -20,7 +20,7 @@ impl<T> Stack<T> {
     /// Puts a value for each node that it gets, from the front, by one compare-and-swap. The last of them is
     /// the new top, and their places are then `None`. A refusal leaves every place as it was: it is `Nothing`
     /// for an empty range, else as that of a put. The call, if the range is not empty, was one run of the
-    /// machine's steps. Called in `example_stack`.
+    /// machine's steps. Called in `examples::stack`.
     pub fn put_range<R: Wait>(
         &self,
         rt: &R,

@@ -24,7 +24,7 @@ pub struct Gauge {
 
 impl<T> Stack<T> {
     /// Whether the stack was closed, and how many tags were used, both at one time since its pass's
-    /// last step before the call. The call is one load of the top. Called in `example_stack`.
+    /// last step before the call. The call is one load of the top. Called in `examples::stack`.
     #[inline]
     pub fn gauge(&self, by: Pass<T>) -> (Pass<T>, Gauge)
         requires { IsPassOf self.now by }

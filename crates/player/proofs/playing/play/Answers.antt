@@ -1,6 +1,7 @@
 use Rattle.std.proofs.Common.{◌≡◌, List, [], ◌∷◌, string_bytes, length, refl, sym, ap, subst, ◌∙◌, arith}
 use Rattle.std.specs.List.{AllByRecursion}
 use Rattle.std.specs.Prelude.{IsTrue}
+use Rattle.script.specs.declared.line.Act.{Act}
 use Rattle.script.specs.declared.line.Line.{Line}
 use Rattle.script.specs.declared.line.Line.TheVariants.{By, Finish}
 use Rattle.script.specs.Script.{FinishesLast, IsLine, is_allowed}
@@ -29,12 +30,13 @@ loop-line-init g c =
       each = c.requires.each;
       allowed = c.requires.allowed;
       finish_last = c.requires.finish_last;
+      on = (first, on);
       playing = (first, on, told_start r.shape first c.args.lines.items (string_bytes c.new-output.result) c.new-output.ensures.bytes);
       traced = adds_nothing _ _ (first, on, traced_start r g.C.Named.is_step first c.args.lines.items _ (string_bytes c.new-output.result) c.in_ok-stage.ensures.places c.new-output.ensures.bytes);
     }
 
-pub act-requires : goal.act-requires
-act-requires g c κs =
+pub fitting-what-requires : goal.fitting-what-requires
+fitting-what-requires g c κs within =
     let r = reading_of g.C.Container g.C.Stepwise c.args.container in
     let i = c.loop-line.invariant in
     let name = c.in-By.name in
@@ -48,24 +50,25 @@ act-requires g c κs =
       another = λ other meets. meets_another r.shape.order name.0 what other meets good.1 allowed;
       fits = is_for r.shape.order name.0 what allowed;
     } in
-    let b = c.type_bounds in
-    (b.send-C-Op, (b.send-C-Root, (b.send-C-Pass, (b.send-C-Note, (b.send-C-Rest, ((refl, tt), record { on = (i.playing.0, i.playing.1); fit = rw c.turn_to.ensures.pass fit }))))))
+    (within, rw c.turn_to.ensures.pass fit)
 
 pub loop-line-preserved : goal.loop-line-preserved
 loop-line-preserved g c =
     let r = reading_of g.C.Container g.C.Stepwise c.args.container in
     let i = c.loop-line.invariant in
-    let line = By c.in-By.name c.in-By.what in
+    let what = c.fitting-what.result in
+    let line = By c.in-By.name what in
     let rest = c.pop_front.new.self.items in
-    let left : c.loop-line.lines.items ≡ line ∷ rest = c.in-Some.ensures.items ∙ ap (λ (l : Line). l ∷ rest) c.in-By.is in
+    let left : c.loop-line.lines.items ≡ line ∷ rest = c.in-Some.ensures.items ∙ ap (λ (l : Line). l ∷ rest) (c.in-By.is ∙ ap (λ (w : Act). By c.in-By.name w) (sym c.fitting-what.ensures.same)) in
     let next = c.in_ok-answer-in-By.ensures.acts i.playing.0 i.playing.1 in
     let told = subst (λ (ls : List Line). Told r.shape (start (r.root c.args.root)) c.args.lines.items i.playing.0 ls (string_bytes c.loop-line.output)) left i.playing.2 in
     record {
       each = (subst (λ (ls : List Line). AllByRecursion IsLine ls) left i.each).1;
       allowed = (subst (λ (ls : List Line). AllByRecursion (λ line. IsTrue (is_allowed r.shape.order line)) ls) left i.allowed).1;
       finish_last = (subst FinishesLast left i.finish_last).1;
-      playing = (next.0, next.1, told_more r.shape _ c.args.lines.items i.playing.0 next.0 c.in-By.name c.in-By.what rest _ _ c.in_ok-answer-in-By.answer told (rw c.turn_to.ensures.pass at next.2) c.in_ok-write_reply-in-By.ensures);
-      traced = play_on r g.C.Named.is_step (start (r.root c.args.root)) c.args.lines.items c.loop-line.lines.items c.in-By.name c.in-By.what rest _ _ c.in_ok-answer-in-By.answer c.loop-line.stage _ _ c.loop-line.trace c.turn_to.new.self _ left (lines_same c.turn_to.new.self c.loop-line.trace c.turn_to.ensures.lines) c.turn_to.ensures.pass i.traced
+      on = (next.0, next.1);
+      playing = (next.0, next.1, told_more r.shape _ c.args.lines.items i.playing.0 next.0 c.in-By.name what rest _ _ c.in_ok-answer-in-By.answer told (rw c.turn_to.ensures.pass at next.2) c.in_ok-write_reply-in-By.ensures);
+      traced = play_on r g.C.Named.is_step (start (r.root c.args.root)) c.args.lines.items c.loop-line.lines.items c.in-By.name what rest _ _ c.in_ok-answer-in-By.answer c.loop-line.stage _ _ c.loop-line.trace c.turn_to.new.self _ left (lines_same c.turn_to.new.self c.loop-line.trace c.turn_to.ensures.lines) c.turn_to.ensures.pass i.traced
           c.in_ok-answer-in-By.ensures.traced c.in_ok-write_reply-in-By.ensures;
     }
 

@@ -17,6 +17,7 @@ invariant-loop-line g l =
       each : AllByRecursion IsLine l.lines.items;
       allowed : AllByRecursion (λ line. IsTrue (is_allowed r.shape.order line)) l.lines.items;
       finish_last : FinishesLast l.lines.items;
+      on : (world : World) × IsOn r l.stage world;
       playing : (world : World) × IsOn r l.stage world
           × Told r.shape (start (r.root l.fn.root)) l.initial.lines.items world l.lines.items (string_bytes l.output);
       traced : Adds (lines_in l.fn.trace) (lines_in l.trace) (λ lines. (world : World) × IsOn r l.stage world
@@ -25,3 +26,6 @@ invariant-loop-line g l =
 
 abbrev pub decreases-loop-line : goal.decreases-loop-line
 decreases-loop-line g l = deque_len l.lines
+
+abbrev pub ghost-fitting : goal.ghost-fitting
+ghost-fitting g a = (g.C.Container.shape a._container.now).order

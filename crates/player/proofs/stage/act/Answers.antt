@@ -3,16 +3,13 @@ use Rattle.player.specs.Shows.{reading_of}
 use Rattle.player.proofs.Lines.{traced_alone}
 use Rattle.player.proofs.Showing.{acts_alone, if_ok_more}
 use Rattle.player.proofs.Tracing.{traces_as, traces_nothing}
-use Rattle.player.proofs.Crossing.{passed}
 use Rattle.player.proofs.stage.act.Goals as goal
 
-pub meet-requires : goal.meet-requires
-meet-requires g c κs =
-    let b = c.type_bounds in
-    (passed _ _ _ g.row.C-Op b.send-C-Op, (passed _ _ _ g.row.C-Root b.send-C-Root, (passed _ _ _ g.row.C-Pass b.send-C-Pass, (passed _ _ _ g.row.C-Note b.send-C-Note, (passed _ _ _ g.row.C-Rest b.send-C-Rest, ((refl, tt), (c.requires.on, (c.requires.fit.small, c.requires.fit.another c.in-Meet.other c.in-Meet.is))))))))
+pub other_letter-other-requires : goal.other_letter-other-requires
+other_letter-other-requires g c = c.requires.fit.another c.in-Meet.other c.in-Meet.is
 
 pub returns-in-Meet-clause-acts : goal.returns-in-Meet-clause-acts
-returns-in-Meet-clause-acts g c world on = rw c.in-Meet.is (c.meet.ensures.meets world on)
+returns-in-Meet-clause-acts g c world on = rw (c.in-Meet.is, ← c.other_letter-other.ensures.same) (c.meet.ensures.meets world on)
 
 pub returns-in_default-clause-acts : goal.returns-in_default-clause-acts
 returns-in_default-clause-acts g c world on =
@@ -22,7 +19,7 @@ returns-in_default-clause-acts g c world on =
 pub returns-in-Meet-clause-traced : goal.returns-in-Meet-clause-traced
 returns-in-Meet-clause-traced g c world on =
     let m = c.meet.ensures.meets world on in
-    rw c.in-Meet.is (traces_nothing _ _ (m.0, m.1, record { does = m.2; none = refl; kept = c.meet.ensures.kept }))
+    rw (c.in-Meet.is, ← c.other_letter-other.ensures.same) (traces_nothing _ _ (m.0, m.1, record { does = m.2; none = refl; kept = c.meet.ensures.kept }))
 
 pub returns-in_default-clause-traced : goal.returns-in_default-clause-traced
 returns-in_default-clause-traced g c world on =

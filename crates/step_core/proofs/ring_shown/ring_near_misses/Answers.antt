@@ -2,7 +2,7 @@ use Rattle.std.proofs.Common.{refl}
 use Rattle.step_core.proofs.ring.Mistakes.{cell_held_twice-unlawful, cell_held_by_two, wins_held_cell, number_again-unlawful, put_late-unlawful, taken_early-unlawful, slot_left_out-unlawful, closed_full-unlawful, put_after_close-unlawful, take_after_shut-unlawful, open_again-unlawful, unshut_again-unlawful, above_limit-unlawful, not_full-unlawful}
 use Rattle.step_core.proofs.ring.WrongAnswers.{put_another-unlawful, handed_back-unlawful, closed_instead-unlawful, counted_two-unlawful}
 use Rattle.step_core.proofs.ring.WrongRuns.{lost_take-unanswered, lost_take-not_linearizable, stale_take-unlawful, stale_take-not_linearizable, starving-not_lock_free, starving-not_unhindered}
-use Rattle.step_core.proofs.ring.WrongHands.{resting_hand-refused, full_of_resting_hands-refused, second_cell-refused, full_of_its_own-refused}
+use Rattle.step_core.proofs.ring.WrongHands.{resting_hand-refused, full_of_resting_hands-refused, second_cell-refused, full_of_its_own-refused, full_of_another_call-refused, spent_too_early-refused}
 use Rattle.step_core.proofs.ring_shown.ring_near_misses.Goals as goal
 
 pub returns : goal.returns
@@ -34,6 +34,8 @@ returns c = record {
   full_of_resting_hands_refused = full_of_resting_hands-refused;
   second_cell_refused = second_cell-refused;
   full_of_its_own_refused = full_of_its_own-refused;
+  full_of_another_call_refused = full_of_another_call-refused;
+  spent_too_early_refused = spent_too_early-refused;
   starving_not_lock_free = starving-not_lock_free;
   starving_not_unhindered = starving-not_unhindered;
 }

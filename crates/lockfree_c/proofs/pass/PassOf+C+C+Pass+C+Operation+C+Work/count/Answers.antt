@@ -4,7 +4,7 @@ use Rattle.lockfree_c.proofs.pass.PassOf+C+C+Pass+C+Operation+C+Work.count.Goals
 
 pub returns-in-Some-clause-gives : goal.returns-in-Some-clause-gives
 returns-in-Some-clause-gives g c =
-    let b = g.C.BoundedCalls in
+    let b = g.C.Handled in
     let p = c.args.self.now in
     let made = c.count_for-made in
     let gives = subst (λ on. g.C.Counts.counts on c.args.tries ((b.reading on).pass c.in-Some.by) made.result) c.deref.ensures made.ensures.gives in

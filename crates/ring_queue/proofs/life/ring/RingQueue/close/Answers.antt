@@ -1,44 +1,11 @@
-use Rattle.running.proofs.Back.{new_call, runs_from}
-use Rattle.ring_queue.specs.Closing.{mark_account}
-use Rattle.ring_queue.specs.Ring.{keeps, machine_of}
+use Rattle.running.proofs.Back.{new_call}
+use Rattle.ring_queue.specs.Ring.{machine_of}
 use Rattle.ring_queue.proofs.life.ring.RingQueue.close.Goals as goal
 
-pub whole-requires : goal.whole-requires
-whole-requires g c =
+pub returns : goal.returns
+returns g c =
     let q = c.args.self.now in
     let e = c.begin_close-pass.ensures in
-    (c.args.by.pass, runs_from (machine_of q) (mark_account q.table.shared.key) keeps q.table.shared.table_id c.args.by c.requires c.begin_close-pass.result e.makes.under_way e.pass)
-
-pub returns-clause-of : goal.returns-clause-of
-returns-clause-of g c =
-    let q = c.args.self.now in
-    let e = c.begin_close-pass.ensures in
-    let b = c.whole.ensures.rested c.args.by c.requires (runs_from (machine_of q) (mark_account q.table.shared.key) keeps q.table.shared.table_id c.args.by c.requires c.begin_close-pass.result e.makes.under_way e.pass) in
-    b.of
-
-pub returns-clause-gives : goal.returns-clause-gives
-returns-clause-gives g c =
-    let q = c.args.self.now in
-    let e = c.begin_close-pass.ensures in
-    let b = c.whole.ensures.rested c.args.by c.requires (runs_from (machine_of q) (mark_account q.table.shared.key) keeps q.table.shared.table_id c.args.by c.requires c.begin_close-pass.result e.makes.under_way e.pass) in
-    (b.gives.closes e.makes.call).0
-
-pub returns-clause-answered : goal.returns-clause-answered
-returns-clause-answered g c =
-    let q = c.args.self.now in
-    let e = c.begin_close-pass.ensures in
-    let b = c.whole.ensures.rested c.args.by c.requires (runs_from (machine_of q) (mark_account q.table.shared.key) keeps q.table.shared.table_id c.args.by c.requires c.begin_close-pass.result e.makes.under_way e.pass) in
-    (b.gives.closes e.makes.call).1
-
-pub returns-clause-ran : goal.returns-clause-ran
-returns-clause-ran g c =
-    let q = c.args.self.now in
-    let e = c.begin_close-pass.ensures in
-    let b = c.whole.ensures.rested c.args.by c.requires (runs_from (machine_of q) (mark_account q.table.shared.key) keeps q.table.shared.table_id c.args.by c.requires c.begin_close-pass.result e.makes.under_way e.pass) in
-    record { operation = c.begin_close-pass.result.operation; call = e.makes.call; ran = b.ran }
-
-pub returns-clause-new : goal.returns-clause-new
-returns-clause-new g c =
-    let q = c.args.self.now in
-    let e = c.begin_close-pass.ensures in
-    new_call (machine_of q) q.table.shared.table_id c.args.by c.requires.on c.whole.result.0 (c.whole.ensures.new c.args.by.pass (runs_from (machine_of q) (mark_account q.table.shared.key) keeps q.table.shared.table_id c.args.by c.requires c.begin_close-pass.result e.makes.under_way e.pass))
+    let b = c.whole.ensures.rested c.args.by c.requires e.ran in
+    let gives = b.gives.closes e.makes.call in
+    record { of = b.of; gives = gives.0; answered = gives.1; ran = record { operation = c.begin_close-pass.result.operation; call = e.makes.call; ran = b.ran }; new = new_call (machine_of q) q.table.shared.table_id c.args.by c.requires.on c.whole.result.0 (c.whole.ensures.new c.args.by.pass e.ran) }

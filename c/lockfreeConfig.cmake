@@ -1,0 +1,17 @@
+# What find_package(lockfree) reads. The archive is linked, unless LOCKFREE_SHARED (or else BUILD_SHARED_LIBS) is set before it:
+# then the shared library, which lies beside the archive.
+include(CMakeFindDependencyMacro)
+find_dependency(Threads)
+include(${CMAKE_CURRENT_LIST_DIR}/lockfreeTargets.cmake)
+if(NOT DEFINED LOCKFREE_SHARED)
+  set(LOCKFREE_SHARED ${BUILD_SHARED_LIBS})
+endif()
+if(LOCKFREE_SHARED)
+  get_filename_component(LOCKFREE_LIBRARY ${CMAKE_CURRENT_LIST_DIR}/../../liblockfree.so ABSOLUTE)
+  if(EXISTS ${LOCKFREE_LIBRARY})
+    set_target_properties(lockfree::lockfree PROPERTIES INTERFACE_LINK_LIBRARIES "${LOCKFREE_LIBRARY};Threads::Threads")
+  else()
+    set(lockfree_FOUND FALSE)
+    set(lockfree_NOT_FOUND_MESSAGE "There is no ${LOCKFREE_LIBRARY}")
+  endif()
+endif()

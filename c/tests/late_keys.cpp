@@ -1,0 +1,55 @@
+// Calls in the destructor of a key of pthreads, by threads that called before, and by threads whose
+// first call it is: each gives its pass back, and no memory of the headers stays.
+#include "lockfree.hpp"
+#include "check.hpp"
+
+#include <pthread.h>
+#include <string>
+#include <thread>
+
+/// The C library keeps 32 bytes of its own of each thread that registers a thread_local object so late.
+extern "C" const char *__lsan_default_suppressions() { return "leak:__cxa_thread_atexit_impl\n"; }
+
+namespace {
+
+using ring = lockfree::ring_queue<std::string, lockfree::capacity<8>>;
+
+ring *called = nullptr;
+pthread_key_t first_key, second_key;
+
+void call(void *) { CHECK(called->try_push("late") == lockfree::status::ok); }
+
+/// Again in each round that the C library makes.
+void call_twice(void *rounds) {
+    call(nullptr);
+    if (const auto left = reinterpret_cast<std::uintptr_t>(rounds); left > 1)
+        CHECK(pthread_setspecific(second_key, reinterpret_cast<void *>(left - 1)) == 0);
+}
+
+void threads_end(bool call_before, int rounds) {
+    std::string out;
+    for (int i = 0; i < 20; ++i) {
+        std::thread([&] {
+            CHECK(pthread_setspecific(first_key, &first_key) == 0);
+            CHECK(pthread_setspecific(second_key, reinterpret_cast<void *>(std::uintptr_t(rounds))) == 0);
+            if (call_before) CHECK(called->empty());
+        }).join();
+        int count = 0;
+        while (called->pop(out)) ++count;
+        CHECK(count == 1 + rounds && out == "late");
+    }
+}
+
+}  // namespace
+
+int main() {
+    CHECK(pthread_key_create(&first_key, call) == 0);
+    CHECK(pthread_key_create(&second_key, call_twice) == 0);
+    ring numbers{lockfree::pass_limit{2}};  // this thread's, and one more
+    called = &numbers;
+    threads_end(false, 1);
+    threads_end(true, 1);
+    threads_end(false, 3);
+    threads_end(true, 3);
+    std::puts("passed");
+}

@@ -1,4 +1,0 @@
-use Rattle.bench_work.proofs.repeating.looks.Given as goal
-
-abbrev pub invariant-loop-made : goal.invariant-loop-made
-invariant-loop-made g l = g.C.Container.is_pass l.fn.container l.pass

@@ -1,2 +1,0 @@
-pub mod Percentiles
-pub mod Meters

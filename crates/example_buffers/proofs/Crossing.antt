@@ -1,7 +1,0 @@
--- A buffer may cross threads.
-use denote.Param.Send.{IsSend, sendable}
-use Rattle.std.proofs.Crossing.{Vec-send}
-use Rattle.example_buffers.specs.contracts.buffer.Buffer as buffer
-
-pub buffer_send : IsSend buffer.the_row
-buffer_send = search (sendable, Vec-send) depth 30

@@ -1,7 +1,0 @@
-use denote.Param.Send.{sendable}
-use Rattle.treiber_stack.proofs.Crossing.{rest_send}
-use Rattle.example_buffers.proofs.Crossing.{buffer_send}
-use Rattle.example_buffers.proofs.pool.fn.use_at_once.fn.scope.spawn.Goals as goal
-
-pub use_pool-requires-send-C-Rest : goal.use_pool-requires-send-C-Rest
-use_pool-requires-send-C-Rest g c κs within = search (sendable, rest_send, buffer_send) depth 30

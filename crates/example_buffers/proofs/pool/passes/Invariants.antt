@@ -1,6 +1,0 @@
-use Rattle.std.proofs.Common.{All}
-use Rattle.treiber_stack.specs.Stack.{IsPassOf, IsRootOf}
-use Rattle.example_buffers.proofs.pool.passes.Given as goal
-
-abbrev pub invariant-loop : goal.invariant-loop
-invariant-loop l = IsRootOf l.fn.pool l.root × All (IsPassOf l.fn.pool) l.all.items

@@ -1,5 +1,0 @@
-use Rattle.treiber_stack.specs.Putting.{IsPutting}
-use Rattle.example_stack.proofs.put_by_steps.Given as goal
-
-abbrev pub invariant-loop-count : goal.invariant-loop-count
-invariant-loop-count l = IsPutting l.fn.stack l.fn.value l.op

@@ -1,0 +1,3 @@
+pub mod Crossing
+mod Hearing
+mod Putting

@@ -1,0 +1,5 @@
+use Rattle.treiber_stack.specs.Stack.{IsPassOf}
+use Rattle.examples.proofs.buffers.fill.Given as goal
+
+abbrev pub invariant-loop : goal.invariant-loop
+invariant-loop g l = IsPassOf l.fn.pool l.pass

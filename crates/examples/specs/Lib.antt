@@ -1,0 +1,4 @@
+pub mod Jobs
+pub mod Over
+pub mod Puts
+pub mod Told

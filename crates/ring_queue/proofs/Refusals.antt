@@ -1,0 +1,39 @@
+-- What a refused put of a ring tells, from the answer that its machine ended with.
+use Rattle.std.specs.Prelude.{ℕ, Result, Err}
+use Rattle.bounded_model.specs.declared.answers.PutRefused.{PutRefused}
+use Rattle.bounded_model.specs.declared.answers.PutRefused.TheVariants.{Full, Spent}
+use Rattle.bounded_model.specs.declared.answers.Stepped.{Stepped}
+use Rattle.bounded_model.specs.declared.answers.Stepped.TheVariants.{Again, Done}
+use Rattle.bounded_model.specs.declared.views.PassView.{PassView}
+use Rattle.running.specs.Going.{Ended}
+use Rattle.running.specs.Kept.{Took, answer_of}
+use Rattle.ring_table.specs.declared.operation.Operation.{Operation}
+use Rattle.ring_table.proofs.Gives.{put_full, put_spent}
+use Rattle.ring_queue.specs.KeepsAnswers.{put_promises}
+use Rattle.ring_queue.specs.Putting.{PutOp, put_account}
+use Rattle.ring_queue.specs.Refusals.{FullTells, FullTried, SpentTells, SpentTried}
+use Rattle.ring_queue.specs.Ring.{Pass, RingQueue, keeps, laps_of, machine_of, pass_in, passes_of, room_of}
+
+module _ {T : Type 0} (c : RingQueue T) (o : Operation T) (begun : PassView T) where
+  module _ (back : Pass T) where
+    abbrev EndedWith : Result ℕ (PutRefused T) → Type 0
+    EndedWith r = Ended (machine_of c) o back.pass.seat.me.0 begun ((put_account c.table.shared.key).answer o (answer_of back r))
+
+    pub full_tells : (r : Result ℕ (PutRefused T)) → EndedWith r → FullTells c begun (pass_in back) r
+    full_tells (Err (Full x)) e = put_full (room_of c) (laps_of c) (passes_of c) back.pass.seat.me.0 begun back.kept.index x e
+    full_tells r e = tt
+
+    pub spent_tells : (r : Result ℕ (PutRefused T)) → EndedWith r → SpentTells c begun (pass_in back) r
+    spent_tells (Err (Spent x word t)) e = put_spent (room_of c) (laps_of c) (passes_of c) back.pass.seat.me.0 begun back.kept.index x word t e
+    spent_tells r e = tt
+
+  abbrev Made : Stepped (PutOp T) (Pass T) (Result ℕ (PutRefused T)) → Type 0
+  Made made = Took (machine_of c) (put_account c.table.shared.key) keeps c.table.shared.table_id (put_promises c.table.shared.key) o begun made
+
+  pub full_tried : (made : Stepped (PutOp T) (Pass T) (Result ℕ (PutRefused T))) → Made made → FullTried c begun made
+  full_tried (Again next) t = tt
+  full_tried (Done back r) t = full_tells back r t.ended
+
+  pub spent_tried : (made : Stepped (PutOp T) (Pass T) (Result ℕ (PutRefused T))) → Made made → SpentTried c begun made
+  spent_tried (Again next) t = tt
+  spent_tried (Done back r) t = spent_tells back r t.ended

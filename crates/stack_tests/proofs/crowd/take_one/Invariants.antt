@@ -1,0 +1,5 @@
+use Rattle.treiber_stack.specs.Stack.{IsPassOf}
+use Rattle.stack_tests.proofs.crowd.take_one.Given as goal
+
+abbrev pub invariant-loop : goal.invariant-loop
+invariant-loop g l = IsPassOf l.fn.stack l.pass

@@ -1,6 +1,0 @@
-use denote.Param.Send.{sendable}
-use Rattle.treiber_stack.proofs.Crossing.{rest_send}
-use Rattle.waiting_tests.proofs.each.calls_of_a_stack_wait.Goals as goal
-
-pub calls_wait-requires-send-C-Rest : goal.calls_wait-requires-send-C-Rest
-calls_wait-requires-send-C-Rest g c κs = search (sendable, rest_send) depth 30
