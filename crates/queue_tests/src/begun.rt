@@ -1,5 +1,5 @@
-//! The five calls of a queue, each begun over the queue's own surface and stepped to its end. The
-//! counts of steps are those of the scripts in `tests/cases`.
+//! The five calls of a queue, each begun over the queue's own surface and stepped to its end, and two
+//! puts that others overtake. The counts of steps are those of the scripts in `tests/cases`.
 
 use bounded_model::{Container, Stepped};
 use ms_queue::Queue;
@@ -53,4 +53,30 @@ fn a_close_ends_at_its_4th_step_a_shut_at_its_2nd_and_a_look_at_its_3rd(rt: Host
         panic!(rt; "the look ended late")
     };
     assert_eq!(rt; (close, shut, look), (true, true, true));
+}
+
+#[test]
+fn a_put_that_others_overtake_ends_at_its_21st_step(rt: HostRuntime) {
+    let limits = Limits::of(3, 15).expect(&rt, "limits");
+    let (queue, mut root) = Queue::<u32>::new(rt.alloc(), limits).expect(&rt, "memory");
+    let overtaken = queue.split(&mut root).expect(&rt, "a pass");
+    let quick = queue.split(&mut root).expect(&rt, "a pass");
+    let helped = queue.split(&mut root).expect(&rt, "a pass");
+    let Stepped::Again(last) = queue.begin_put(overtaken, 7).run_for(&queue, 2) else {
+        panic!(rt; "the put ended before the others began")
+    };
+    let (_, first) = queue.put(&rt, quick, 8);
+    let Stepped::Again(second) = queue.begin_put(helped, 9).run_for(&queue, 13) else {
+        panic!(rt; "the put ended before it moved the tail")
+    };
+    let Stepped::Again(last) = last.run_for(&queue, 18) else {
+        panic!(rt; "the overtaken put ended early")
+    };
+    let Stepped::Done(_, last) = last.step(&queue) else {
+        panic!(rt; "the overtaken put ended late")
+    };
+    let Stepped::Done(_, second) = second.step(&queue) else {
+        panic!(rt; "the helped put ended late")
+    };
+    assert_eq!(rt; (first, second, last), (Ok(0), Ok(1), Ok(2)));
 }

@@ -185,7 +185,7 @@ fn shut_after<'a>(alloc: Global) -> Arg<'a> {
         .value_name("M")
         .value_parser(value_parser!(u32).range(0..=i64::from(MAX_COUNT)))
         .help(
-            "The first consumer shuts the container after M lines,\n0 to 65,535; no line gets out afterwards",
+            "The first consumer shuts the container after M lines,\n0 to 65,535; no line gets out afterwards. All files\ntogether may then have at most N + M lines",
         )
 }
 
