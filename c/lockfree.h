@@ -2,9 +2,9 @@
  * The functions are proved; the inline ones at the end are tested.
  *
  * Which one: a stack gives the last value first, a queue and a ring the first. Between threads a
- * ring is faster than a queue. From 64 slots on it takes half the memory, and with more than 2 it
- * lasts longer, but it is made for a number of passes. So take the ring if you know how many passes
- * there will be, and the queue if you do not.
+ * ring is faster than a queue, and with more than 2 slots it lasts longer. From 64 slots on each
+ * value takes half the memory, and each pass that the ring is made for 20 bytes. So take the ring if
+ * you can name the most passes, and the queue if you cannot.
  *
  * The library keeps a handle in your memory: a root or a pass of one container. All zero bytes are
  * an empty handle. A root gives passes, one to each thread. A pass makes the calls. Each handle has
