@@ -26,7 +26,7 @@ use Rattle.running.specs.Kept.{WasRun}
 use Rattle.ring_queue.specs.Calls.{is_call}
 use Rattle.ring_queue.specs.Putting.{put_account}
 use Rattle.ring_queue.specs.Ring.{RingQueue, Pass, laps_of, machine_of, pass_in, passes_of, room_of}
-use Rattle.ring_runs.specs.Full.{WasFull}
+use Rattle.runs.specs.ring.Full.{WasFull}
 use Rattle.tagged_index.specs.declared.limit.Limits.{Limits}
 use Rattle.runs.specs.InTime.{DidOnce, HeardOf, InOneOrder, InTurn, IsCallOf, KnownCall, put_effect, take_effect}
 use Rattle.example_order.specs.Order.{FullSays, TookAfter}

@@ -10,7 +10,7 @@ use Rattle.machine.specs.Seats.{Acts}
 use Rattle.ring_table.specs.declared.line.SeatLine.{SeatLine}
 use Rattle.running.specs.Kept.{acts_in}
 use Rattle.ring_queue.specs.Ring.{RingQueue, Pass, laps_of, pass_in, passes_of, room_of}
-use Rattle.ring_runs.specs.Full.{WasFull}
+use Rattle.runs.specs.ring.Full.{WasFull}
 use Rattle.runs.specs.InTime.{InOneOrder, IsBefore, KnownCall, put_effect, take_effect}
 use mathlib.Core.Option.{some}
 use lib.ListN.{get_elem?}

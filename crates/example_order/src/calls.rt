@@ -5,16 +5,15 @@ ghost use Rattle.running.specs.Kept.{acts_of_root};
 ghost use Rattle.ring_queue.specs.Leaving.{left_in};
 ghost use Rattle.ring_queue.specs.Ring.{IsPassOf, laps_of, machine_of, pass_in, room_of, shape_of};
 ghost use Rattle.ring_queue.specs.Roots.{IsRootOf, root_in};
-ghost use Rattle.ring_runs.specs.Bounded.{call_in};
-ghost use Rattle.ring_runs.specs.Linearizable.{answer_at};
+ghost use Rattle.runs.specs.ring.Bounded.{call_in};
+ghost use Rattle.runs.specs.ring.Linearizable.{answer_at};
 ghost use Rattle.runs.specs.OneRun.{OneRun};
 ghost use Rattle.step_core.specs.ring.Object.{object};
 ghost use Rattle.example_order.specs.Order.{FullSays, TookAfter};
 
 use bounded_model::{PutRefused, TakeRefused};
 use ring_queue::{Pass, Rest, RingQueue, Root};
-use ring_runs::{ring_full_put, ring_one_run};
-use runs::{calls_in_one_order, each_call_did_once};
+use runs::{calls_in_one_order, each_call_did_once, ring_full_put, ring_one_run};
 use std::sync::Wait;
 
 /// Puts a value. If the ring was full, its n slots held at least n - k values at one moment between the

@@ -11,8 +11,8 @@ use Rattle.running.specs.Acts.{Course}
 use Rattle.running.specs.Going.{Going}
 use Rattle.running.specs.declared.passes.Pass.{Pass}
 use Rattle.ms_queue.specs.Queue.{Queue, room_of, limit_of, machine_of}
-use Rattle.queue_runs.specs.Bounded.{IsBounded}
-use Rattle.queue_runs.proofs.Queues.{bounded}
+use Rattle.runs.specs.queue.Bounded.{IsBounded}
+use Rattle.runs.proofs.queue.Queues.{bounded}
 use Rattle.runs.specs.Made.{HasMade}
 use Rattle.runs.proofs.Made.{some_made}
 use Rattle.progress.proofs.Courses.{Bounds, BoundsMore, bounds, bounds_seen, bounds_some}

@@ -4,8 +4,8 @@ use Rattle.tagged_index.specs.declared.limit.Limits.{Limits}
 use Rattle.bounded_model.specs.declared.views.PassView.{PassView}
 use Rattle.machine.specs.Seats.{Acts, acts_before, acts_now, pass_of}
 use Rattle.ring_queue.specs.Ring.{RingQueue, room_of, laps_of, passes_of, machine_of}
-use Rattle.ring_runs.specs.Bounded.{IsBounded}
-use Rattle.ring_runs.proofs.Overtaken.{bounded}
+use Rattle.runs.specs.ring.Bounded.{IsBounded}
+use Rattle.runs.proofs.ring.Overtaken.{bounded}
 use Rattle.ring_table.specs.Core.{core}
 use Rattle.ring_table.specs.Seats.{names}
 use Rattle.ring_table.specs.declared.line.SeatLine.{SeatLine}

@@ -11,8 +11,8 @@ use Rattle.running.specs.Acts.{Course}
 use Rattle.running.specs.Going.{Going}
 use Rattle.running.specs.declared.passes.Pass.{Pass}
 use Rattle.treiber_stack.specs.Stack.{Stack, room_of, limit_of, machine_of}
-use Rattle.stack_runs.specs.Bounded.{IsBounded}
-use Rattle.stack_runs.proofs.Stacks.{bounded}
+use Rattle.runs.specs.stack.Bounded.{IsBounded}
+use Rattle.runs.proofs.stack.Stacks.{bounded}
 use Rattle.step_core.specs.stack.Bound.{IsSingle}
 use Rattle.runs.specs.Made.{HasMade}
 use Rattle.runs.proofs.Made.{some_made}

@@ -9,8 +9,8 @@ use Rattle.machine.specs.Seats.{Acts, Extends, acts_before, acts_now}
 use Rattle.queue_machine.specs.Answers.{shape}
 use Rattle.queue_machine.specs.Machine.{queue}
 use Rattle.queue_machine.specs.declared.lines.Line.{Line}
-use Rattle.queue_runs.specs.Bounded.{IsBounded, call_at, state_after}
-use Rattle.queue_runs.specs.Work.{TotalWork}
+use Rattle.runs.specs.queue.Bounded.{IsBounded, call_at, state_after}
+use Rattle.runs.specs.queue.Work.{TotalWork}
 use Rattle.queue_table.specs.Core.{core}
 use Rattle.queue_table.specs.Lines.{first_line, names}
 use Rattle.queue_table.specs.declared.operation.Operation.{Operation}

@@ -7,10 +7,10 @@ use Rattle.bounded_model.specs.declared.views.RootView.{RootView}
 use Rattle.machine.specs.Progress.{others_win}
 use Rattle.machine.specs.Seats.{Acts, Extends, acts_before, acts_now}
 use Rattle.ring_queue.specs.Ring.{RingQueue, Pass as RingPass, room_of, laps_of, passes_of, machine_of}
-use Rattle.ring_runs.specs.Bounded.{IsBounded, call_at, call_in, state_after}
-use Rattle.ring_runs.specs.Linearizable.{answer_at}
-use Rattle.ring_runs.specs.Machine.{cell_ring}
-use Rattle.ring_runs.specs.Work.{TotalWork}
+use Rattle.runs.specs.ring.Bounded.{IsBounded, call_at, call_in, state_after}
+use Rattle.runs.specs.ring.Linearizable.{answer_at}
+use Rattle.runs.specs.ring.Machine.{cell_ring}
+use Rattle.runs.specs.ring.Work.{TotalWork}
 use Rattle.ring_table.specs.Core.{core}
 use Rattle.ring_table.specs.Seats.{names}
 use Rattle.ring_table.specs.declared.line.SeatLine.{SeatLine}

@@ -9,8 +9,8 @@ use Rattle.machine.specs.Seats.{Acts, Extends, acts_before, acts_now}
 use Rattle.stack_machine.specs.Answers.{shape}
 use Rattle.stack_machine.specs.Machine.{stack}
 use Rattle.stack_machine.specs.declared.lines.Line.{Line}
-use Rattle.stack_runs.specs.Bounded.{IsBounded, call_at, state_after}
-use Rattle.stack_runs.specs.Work.{TotalWork}
+use Rattle.runs.specs.stack.Bounded.{IsBounded, call_at, state_after}
+use Rattle.runs.specs.stack.Work.{TotalWork}
 use Rattle.stack_table.specs.Core.{core}
 use Rattle.stack_table.specs.Lines.{first_line, names}
 use Rattle.stack_table.specs.declared.operation.Operation.{Operation}

@@ -8,7 +8,7 @@ ghost use Rattle.ms_queue.specs.Queue.{IsPassOf, IsRootOf, machine_of, pass_in, 
 ghost use Rattle.ms_queue.specs.Stepwise.{IsMakingCall, making};
 ghost use Rattle.ms_queue.specs.Trying.{PutTried, TakeTried};
 ghost use Rattle.queue_machine.specs.declared.lines.Line.{Line};
-ghost use Rattle.queue_runs.specs.Work.{fee, others_of};
+ghost use Rattle.runs.specs.queue.Work.{fee, others_of};
 ghost use Rattle.runs.specs.Work.{total_steps, total_fees};
 ghost use Rattle.progress.specs.Queues.{StepsAreBounded, EndsOrOvertaken, IsOvertaken, IsPaidRun};
 ghost use Rattle.running.specs.Going.{Going};

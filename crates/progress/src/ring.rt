@@ -17,7 +17,7 @@ ghost use Rattle.ring_queue.specs.Roots.{IsRootOf, root_in};
 ghost use Rattle.ring_queue.specs.Stepwise.{IsMakingCall, making};
 ghost use Rattle.ring_queue.specs.Trying.{PutTried, TakeTried};
 ghost use Rattle.ring_table.specs.declared.line.SeatLine.{SeatLine};
-ghost use Rattle.ring_runs.specs.Work.{fee};
+ghost use Rattle.runs.specs.ring.Work.{fee};
 ghost use Rattle.runs.specs.Work.{total_steps, total_fees};
 ghost use Rattle.progress.specs.Rings.{EndsOrOvertaken, IsOvertaken, IsPaidRun, StepsAreBounded};
 ghost use Rattle.running.specs.Going.{Going};

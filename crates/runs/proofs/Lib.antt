@@ -14,3 +14,6 @@ pub mod Effects
 pub mod WrongCalls
 pub mod OneRun
 pub mod Point
+pub mod queue
+pub mod stack
+pub mod ring

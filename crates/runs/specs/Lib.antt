@@ -8,3 +8,6 @@ pub mod WrongTables
 pub mod InTime
 pub mod WrongCalls
 pub mod OneRun
+pub mod queue
+pub mod stack
+pub mod ring

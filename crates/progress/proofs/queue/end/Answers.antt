@@ -1,7 +1,7 @@
 use Rattle.std.proofs.Common.{arith}
 use Rattle.ms_queue.specs.Queue.{room_of, limit_of}
-use Rattle.queue_runs.proofs.Queues.{linearizable}
-use Rattle.queue_runs.proofs.Total.{total_work}
+use Rattle.runs.proofs.queue.Queues.{linearizable}
+use Rattle.runs.proofs.queue.Total.{total_work}
 use Rattle.progress.proofs.queue.end.Goals as goal
 
 pub returns-clause-run : goal.returns-clause-run

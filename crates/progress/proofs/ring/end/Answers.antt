@@ -1,7 +1,7 @@
 use Rattle.std.proofs.Common.{arith}
 use Rattle.ring_queue.specs.Ring.{room_of, laps_of, passes_of}
-use Rattle.ring_runs.proofs.Rings.{linearizable}
-use Rattle.ring_runs.proofs.Total.{total_work}
+use Rattle.runs.proofs.ring.Rings.{linearizable}
+use Rattle.runs.proofs.ring.Total.{total_work}
 use Rattle.progress.proofs.ring.end.Goals as goal
 
 pub returns-clause-run : goal.returns-clause-run

@@ -1,7 +1,7 @@
 use Rattle.std.proofs.Common.{arith}
 use Rattle.treiber_stack.specs.Stack.{room_of, limit_of}
-use Rattle.stack_runs.proofs.Stacks.{linearizable}
-use Rattle.stack_runs.proofs.Total.{total_work}
+use Rattle.runs.proofs.stack.Stacks.{linearizable}
+use Rattle.runs.proofs.stack.Total.{total_work}
 use Rattle.progress.proofs.stack.end.Goals as goal
 
 pub returns-clause-run : goal.returns-clause-run
