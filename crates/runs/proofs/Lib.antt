@@ -14,6 +14,8 @@ pub mod Effects
 pub mod WrongCalls
 pub mod OneRun
 pub mod Point
+pub mod Same
+pub mod Courses
 pub mod queue
 pub mod stack
 pub mod ring

@@ -4,3 +4,5 @@ pub mod Tables
 pub mod FullPuts
 pub mod WrongActs
 pub mod Ended
+pub mod Progress
+pub mod ProgressCalls

@@ -16,3 +16,5 @@ pub mod Total
 pub mod Ended
 pub mod Tables
 pub mod FullPuts
+pub mod Progress
+pub mod ProgressCalls

@@ -4,3 +4,4 @@ pub mod Headline
 pub mod Full
 pub mod WrongActs
 pub mod Ended
+pub mod Progress

@@ -5,3 +5,4 @@ pub mod Work
 pub mod Ended
 pub mod Headline
 pub mod Full
+pub mod Progress

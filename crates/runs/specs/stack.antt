@@ -3,3 +3,4 @@ pub mod Work
 pub mod Headline
 pub mod Full
 pub mod Ended
+pub mod Progress

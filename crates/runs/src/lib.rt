@@ -4,12 +4,14 @@
 //! `order`, `one_run` and `counting` are of all machines: calls in one order and in real time, and
 //! operations whose caller makes each step and counts it. `queue_laws`, `stack_laws` and `ring_laws`
 //! say of each container that its acts are a schedule of its machine, with all that follows from it.
-//! No function but `step_for` makes a step: the contract of each is a law of what the passes know.
+//! Their functions make no step: the contract of each is a law of what the passes know. `progress`
+//! has the bounds as a caller of a container sees them.
 #![tactic(auto)]
 
 mod counting;
 mod one_run;
 mod order;
+pub mod progress;
 mod queue_laws;
 mod ring_laws;
 mod shown;

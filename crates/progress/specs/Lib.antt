@@ -1,3 +1,0 @@
-pub mod Queues
-pub mod Stacks
-pub mod Rings

@@ -1,0 +1,7 @@
+use Rattle.ms_queue.specs.Queue.{machine_of}
+use Rattle.runs.proofs.queue.Progress.{overtaken_seen}
+use Rattle.runs.proofs.Made.{going}
+use Rattle.runs.proofs.progress.queue.call_is_overtaken.Goals as goal
+
+pub returns : goal.returns
+returns g c = overtaken_seen c.args.queue.now c.args.op.now.operation c.args.op.now.pass (going (machine_of c.args.queue.now) _ _ c.args.op.now c.requires.1.under_way)
