@@ -431,11 +431,11 @@ module _ {T L O : Type 0} {names : Names L O} (m : Machine T L O names) where
     looking_allowed (AtHearing p xs l told) a = (tt, a)
     looking_allowed v a = a
 
-    looking_proper : (v : View T L) → MayLook m v → Proper acts → Proper (looking acts v)
-    looking_proper (AtPass p begun l) may a = (may, a)
-    looking_proper (AtMeeting p xs k q ys l) may a = (tt, a)
-    looking_proper (AtHearing p xs l told) may a = (tt, a)
-    looking_proper v may a = a
+    looking_proper : (v : View T L) → MayLook m v → Fits acts v → Proper acts → Proper (looking acts v)
+    looking_proper (AtPass p begun l) may f a = (may, a)
+    looking_proper (AtMeeting p xs k q ys l) may f a = (f.lines p.number (inl refl), a)
+    looking_proper (AtHearing p xs l told) may f a = (f.lines p.number refl, a)
+    looking_proper v may f a = a
 
     looking_fresh : (v : View T L) → Fresh acts → Fresh (looking acts v)
     looking_fresh (AtPass p begun l) a = (tt, a)
@@ -556,7 +556,7 @@ module _ {T L O : Type 0} {names : Names L O} (m : Machine T L O names) where
     led_look id v may mine = record {
       acts = looking led.acts v;
       allowed = looking_allowed led.acts v led.allowed;
-      proper = looking_proper led.acts v may led.proper;
+      proper = looking_proper led.acts v may (led.each id v mine) led.proper;
       fresh = looking_fresh led.acts v led.fresh;
       memory_is = ap (λ (k : N). k.memory) (looking_state led.acts v) ∙ led.memory_is;
       history_is = ap (λ (k : N). k.history) (looking_state led.acts v) ∙ led.history_is;

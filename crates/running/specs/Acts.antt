@@ -81,13 +81,13 @@ module _ {T L O : Type 0} (names : Names L O) (c : Core T L O) where
   abbrev pub IsFirst : L → Type 0
   IsFirst l = (o : O) × (rest : L) × (l ≡ names.first o rest)
 
-  -- An act that does something: a pass between its operations begins one, one in an operation makes its step, and loads besides only if the
-  -- machine has such loads
+  -- An act that does something: a pass between its operations begins one, or hears what others have done; one in an operation makes its step. A pass
+  -- makes loads that belong to no line only if the machine has such loads
   abbrev pub IsProper : Now → ℕ → Doing L → Type 0
   IsProper s p (Begins first) = names.is_idle (s.line p) ≡ true
   IsProper s p Steps = names.is_idle (s.line p) ≡ false
   IsProper s p Looks = c.Reads
-  IsProper s p Hears = Unit {0}
+  IsProper s p Hears = names.is_idle (s.line p) ≡ true
 
   abbrev pub AllProper : Acts L → Type 0
   AllProper [] = Unit {0}

@@ -10,10 +10,13 @@ use Rattle.queue_table.specs.Lines.{names}
 use Rattle.queue_table.specs.Core.{core}
 use Rattle.running.specs.Acts.{HasDone}
 use Rattle.runs.specs.Table.{LedTo}
-use Rattle.runs.specs.queue.WrongActs.{idle_step, one_look}
+use Rattle.runs.specs.queue.WrongActs.{idle_step, hearing_in_a_look, one_look}
 
 pub idle_step-refused : (memory : Memory ℕ) (h : List (Event ℕ)) (views : List (View ℕ (Line ℕ))) → ¬ LedTo names (core ℕ 1 15) idle_step memory h views
 idle_step-refused memory h views led = false≢true (sym led.proper.0)
+
+pub hearing_in_a_look-refused : (memory : Memory ℕ) (h : List (Event ℕ)) (views : List (View ℕ (Line ℕ))) → ¬ LedTo names (core ℕ 1 15) hearing_in_a_look memory h views
+hearing_in_a_look-refused memory h views led = false≢true led.proper.0
 
 pub one_look-done : HasDone names (core ℕ 1 15) one_look 0 3 (Look true ∷ [])
 one_look-done = record { steps_are = refl; answers_are = refl }

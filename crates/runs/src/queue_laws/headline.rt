@@ -14,7 +14,7 @@ ghost use Rattle.running.specs.Acts.{HasDone};
 ghost use Rattle.running.specs.Rule.{Rule};
 ghost use Rattle.runs.specs.Table.{LedTo};
 ghost use Rattle.runs.specs.queue.Headline.{Headline};
-ghost use Rattle.runs.specs.queue.WrongActs.{idle_step, one_look};
+ghost use Rattle.runs.specs.queue.WrongActs.{idle_step, hearing_in_a_look, one_look};
 
 /// All passes of a queue see one history of one bounded queue. This holds in any table that meets
 /// the rule of a queue, as each queue's does between any two atomic steps of any threads:
@@ -33,12 +33,15 @@ pub fn queue_headline<T>()
         → Headline T n limit s r }
 {}
 
-/// Near misses of the acts that led to a table. A step of a pass that is in no operation is none of them. In
-/// the acts of a look the pass has made its three steps and has its answer: a view that forgets the answer
-/// or a step is not what they led to.
+/// Near misses of the acts that led to a table. A step of a pass that is in no operation is none of them,
+/// and neither is a pass's hearing of others in the middle of its look. In the acts of a look the pass has
+/// made its three steps and has its answer: a view that forgets the answer or a step is not what they led
+/// to.
 pub fn queue_headline_near_misses()
     ensures idle_step_refused { (memory : Memory ℕ) (h : List (Event ℕ)) (views : List (View ℕ (Line ℕ))) →
         ¬ LedTo names (core ℕ 1 15) idle_step memory h views }
+    ensures hearing_in_a_look_refused { (memory : Memory ℕ) (h : List (Event ℕ)) (views : List (View ℕ (Line ℕ))) →
+        ¬ LedTo names (core ℕ 1 15) hearing_in_a_look memory h views }
     ensures one_look_done { HasDone names (core ℕ 1 15) one_look 0 3 (Look true ∷ []) }
     ensures forgotten_answer_refused { ¬ HasDone names (core ℕ 1 15) one_look 0 3 [] }
     ensures forgotten_step_refused { ¬ HasDone names (core ℕ 1 15) one_look 0 2 (Look true ∷ []) }
