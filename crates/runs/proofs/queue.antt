@@ -6,3 +6,7 @@ pub mod WrongActs
 pub mod Ended
 pub mod Progress
 pub mod ProgressCalls
+pub mod LifeKinds
+pub mod LifeSteps
+pub mod Lives
+pub mod WrongLives

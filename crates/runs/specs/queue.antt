@@ -5,3 +5,4 @@ pub mod Full
 pub mod WrongActs
 pub mod Ended
 pub mod Progress
+pub mod Life

@@ -23,7 +23,8 @@ pub use order::{calls_in_one_order, calls_near_misses, each_call_did_once};
 pub use queue_laws::{
     queue_acts_are_a_schedule, queue_acts_are_linearizable, queue_acts_are_lock_free,
     queue_call_has_point, queue_full_put, queue_headline, queue_headline_near_misses,
-    queue_one_run, queue_steps_are_bounded, queue_total_work,
+    queue_one_run, queue_spent_near_misses, queue_spent_put, queue_steps_are_bounded,
+    queue_total_work,
 };
 pub use ring_laws::{
     ring_acts_are_a_schedule, ring_acts_are_linearizable, ring_acts_are_lock_free,
