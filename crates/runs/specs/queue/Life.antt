@@ -1,7 +1,7 @@
 -- What a caller knows whose put was refused because its queue is spent.
 use Rattle.std.specs.Prelude.{◌≡◌, ℕ, zero, suc, ◌+◌, ◌≤◌, false, List, [], ◌∷◌}
 use Rattle.bounded_model.specs.declared.history.Event.{Event}
-use Rattle.bounded_model.specs.declared.history.Event.TheVariants.{Hold, Free}
+use Rattle.bounded_model.specs.declared.history.Event.TheVariants.{Hold, Put, Free}
 use Rattle.machine.specs.Seats.{Acts}
 use Rattle.queue_machine.specs.declared.lines.Line.{Line}
 use Rattle.queue_machine.specs.declared.lines.Line.TheVariants.{LoadCells}
@@ -20,6 +20,10 @@ put_that_backs_out =
     (0, Steps) ∷ (0, Steps) ∷ (0, Steps) ∷ (0, Steps) ∷ (0, Steps) ∷ (0, Steps) ∷ (0, Steps)
     ∷ (0, Steps) ∷ (0, Steps) ∷ (0, Steps) ∷ (0, Steps) ∷ (0, Steps) ∷ (0, Steps) ∷ (0, Steps)
     ∷ (0, Begins (LoadCells 7)) ∷ []
+
+-- a put of 7 that stored it
+abbrev pub one_put : List (Event ℕ)
+one_put = Put 0 (7 ∷ []) 0 ∷ Hold 0 ∷ []
 
 -- this number of puts after one another that back out
 abbrev pub backed_out : ℕ → List (Event ℕ)

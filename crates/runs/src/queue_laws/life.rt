@@ -18,7 +18,7 @@ ghost use Rattle.queue_table.specs.Lines.{names};
 ghost use Rattle.queue_table.proofs.Laws.{queue};
 ghost use Rattle.running.specs.Acts.{played};
 ghost use Rattle.running.specs.Going.{HasRun};
-ghost use Rattle.runs.specs.queue.Life.{IsSpent, backed_out, put_that_backs_out};
+ghost use Rattle.runs.specs.queue.Life.{IsSpent, backed_out, one_put, put_that_backs_out};
 
 /// A put is refused as spent at the end of its queue's life, and not before. By the put's run (its clause
 /// `ran`), as many cells were reserved by then as the queue's limit says. If the queue is open in all that the
@@ -33,14 +33,14 @@ pub fn queue_spent_put<T>()
 {}
 
 /// Near misses of a spent queue. A queue with a single tag is spent by its first put, which gives its cell back.
-/// At half of its life a queue is not spent, though it is worn (`IsWorn`) as each refusal says. Nor has an open
-/// queue lived its life if three puts in a row gave their cells back.
+/// With two tags, it is not spent by a put that stored its value, though it is then worn (`IsWorn`), as each
+/// refusal says. Nor is an open queue spent by puts that all gave their cells back.
 pub fn queue_spent_near_misses()
     ensures first_put_spent { (played names (core ℕ 1 1) put_that_backs_out).line 0
         ≡ ends (AnswerPut (Err (Spent 7 (Next 1) 0))) }
     ensures first_history { (played names (core ℕ 1 1) put_that_backs_out).history ≡ backed_out 1 }
     ensures first_life { IsSpent 1 1 (backed_out 1) }
-    ensures half_life_worn { IsWorn (shape 1 2) (backed_out 1) }
-    ensures half_life_refused { ¬ IsSpent 1 2 (backed_out 1) }
+    ensures half_life_worn { IsWorn (shape 1 2) one_put }
+    ensures half_life_refused { ¬ IsSpent 1 2 one_put }
     ensures no_values_refused { ¬ IsSpent 1 3 (backed_out 3) }
 {}
