@@ -21,7 +21,7 @@ use Rattle.lockfree_c.specs.Codes.{bare}
 use Rattle.lockfree_c.specs.Passes.{PassBegan, PassCalled, PassWentOn}
 use Rattle.lockfree_c.specs.Queues as queues
 use Rattle.lockfree_c.specs.Rings as rings
-use Rattle.lockfree_c.specs.Sides.{IsNewSide, IsSide, SideCalled, SideFinished, SideSplit}
+use Rattle.lockfree_c.specs.Sides.{IsNewSide, IsSide, SideCalled, SideFinished, SideJoined, SideSplit, SideUnjoined, SidesMatch}
 use Rattle.lockfree_c.specs.Stacks as stacks
 use Rattle.lockfree_c.specs.Stages.{SaysNumber, refusal_at}
 use Rattle.lockfree_c.specs.declared.answers.Answer.{Answer}
@@ -153,6 +153,27 @@ HeldSplit (Ring s) (Ring t) (Ok (Ring u)) = SideSplit rings.ring_reading s t (Ok
 HeldSplit (Ring s) (Ring t) (Err code) = SideSplit rings.ring_reading s t (Err code)
 HeldSplit Nothing Nothing (Err code) = (code ≡ OTHER_HANDLE) ⊎ (code ≡ NO_MEMORY)
 HeldSplit h g made = ⊥
+
+-- a pass that is to be joined to a root is one of its container
+abbrev pub HeldMatch : Held → Held → Type 0
+HeldMatch (Queue s) (Queue t) = SidesMatch s t
+HeldMatch (Stack s) (Stack t) = SidesMatch s t
+HeldMatch (Ring s) (Ring t) = SidesMatch s t
+HeldMatch h g = Unit {0}
+
+-- a root took a pass back
+abbrev pub HeldJoined : Held → Held → Held → Type 0
+HeldJoined (Queue s) (Queue t) (Queue u) = SideJoined queues.queue_reading s t u
+HeldJoined (Stack s) (Stack t) (Stack u) = SideJoined stacks.stack_reading s t u
+HeldJoined (Ring s) (Ring t) (Ring u) = SideJoined rings.ring_reading s t u
+HeldJoined h g k = ⊥
+
+-- why it did not
+abbrev pub HeldUnjoined : Held → Held → ℕ → Type 0
+HeldUnjoined (Queue s) (Queue t) code = SideUnjoined s t code
+HeldUnjoined (Stack s) (Stack t) code = SideUnjoined s t code
+HeldUnjoined (Ring s) (Ring t) code = SideUnjoined s t code
+HeldUnjoined h g code = code ≡ OTHER_HANDLE
 
 abbrev pub HeldFinished : Held → Held → Answer → Type 0
 HeldFinished (Queue s) (Queue t) a = SideFinished queues.queue_reading queue_left.left_in s t a

@@ -4,7 +4,7 @@ use Rattle.bounded_model.specs.Machine.{Shape}
 use Rattle.lockfree_c.specs.Calls.{Reading}
 use Rattle.lockfree_c.specs.Codes.{bare}
 use Rattle.lockfree_c.specs.Passes.{IsPass}
-use Rattle.lockfree_c.specs.Roots.{HandsOut, IsEnded, IsNewRoot, IsRoot, SplitOff, SplitRefused}
+use Rattle.lockfree_c.specs.Roots.{HandsOut, IsEnded, IsNewRoot, IsRoot, JoinRefused, JoinedTo, SplitOff, SplitRefused}
 use Rattle.lockfree_c.specs.declared.answers.Answer.{Answer}
 use Rattle.lockfree_c.specs.declared.answers.TheConstants.{NO_MEMORY, OTHER_HANDLE, SHARED}
 use Rattle.lockfree_c.specs.declared.pass.PassOf.{PassOf}
@@ -21,6 +21,16 @@ module _ {C R P O W L : Type 0} where
   SideCalled Calls (Pass p) (Pass q) a = Calls p q a
   SideCalled Calls (Pass p) t a = ⊥
   SideCalled Calls s t a = SideKept OTHER_HANDLE s t a
+
+  -- a pass that is to be joined to a root is one of its container
+  abbrev pub SidesMatch : Side C R P O W L → Side C R P O W L → Type 0
+  SidesMatch (Root r) (Pass p) = p.container.value ≡ r.container.value
+  SidesMatch s t = Unit {0}
+
+  -- why a side was not joined to another one: they are no root and pass, or the pass was refused
+  abbrev pub SideUnjoined : Side C R P O W L → Side C R P O W L → ℕ → Type 0
+  SideUnjoined (Root r) (Pass p) code = JoinRefused p code
+  SideUnjoined s t code = code ≡ OTHER_HANDLE
 
   module _ (reading : C → Reading R P O W) where
     abbrev pub IsSide : Side C R P O W L → Type 0
@@ -40,6 +50,11 @@ module _ {C R P O W L : Type 0} where
     SideSplit (Root r) t made = ⊥
     SideSplit s t (Err code) = (t ≡ s) × ((code ≡ OTHER_HANDLE) ⊎ (code ≡ NO_MEMORY))
     SideSplit s t made = ⊥
+
+    -- a root took a pass back
+    abbrev pub SideJoined : Side C R P O W L → Side C R P O W L → Side C R P O W L → Type 0
+    SideJoined (Root r) (Pass p) (Root s) = JoinedTo reading r p s
+    SideJoined s t u = ⊥
 
     -- a root ends its container, and the first of what it leaves is handed out, or another handle is out; what is left of an ended one hands out
     -- its next value

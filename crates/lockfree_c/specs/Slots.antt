@@ -3,7 +3,7 @@ use Rattle.std.specs.Prelude.{◌≡◌, ℕ, Bool, true, false, List, Result, M
 use Rattle.bounded_model.specs.declared.commands.Command.{Command}
 use Rattle.index_list.specs.declared.front.Front.{Front}
 use Rattle.lockfree_c.specs.Codes.{bare}
-use Rattle.lockfree_c.specs.Held.{IsHeld, HeldCalled, HeldContinues, HeldCopied, HeldCounted, HeldFinished, HeldFolded, HeldGauged, HeldNumber, HeldWentOn, HeldSplit, NewRefused}
+use Rattle.lockfree_c.specs.Held.{IsHeld, HeldCalled, HeldContinues, HeldCopied, HeldCounted, HeldFinished, HeldFolded, HeldGauged, HeldJoined, HeldMatch, HeldNumber, HeldSplit, HeldUnjoined, HeldWentOn, NewRefused}
 use Rattle.lockfree_c.specs.declared.answers.Answer.{Answer}
 use Rattle.lockfree_c.specs.declared.answers.TheConstants.{OK, NO_HANDLE, IN_USE}
 use Rattle.lockfree_c.specs.declared.held.Held.{Held}
@@ -85,6 +85,21 @@ SlotSplit root pass root' pass' code = Either pass.full
     ((root'.full ≡ true) × ((made : Result Held ℕ) × HeldSplit root.handle.held root'.handle.held made
     × MatchResult made (λ held. Holds pass' held × (code ≡ OK)) (λ why. IsEmpty pass' × (code ≡ why))))
     (IsEmpty root' × IsEmpty pass' × (code ≡ NO_HANDLE)))
+
+-- a pass is joined to the root that it was split from
+abbrev pub SlotsMatch : Slot → Slot → Type 0
+SlotsMatch root pass = root.full ≡ true → pass.full ≡ true → HeldMatch root.handle.held pass.handle.held
+
+-- the root takes the pass back, whose slot is empty then; or what is behind each slot is as it was
+abbrev pub SlotTookBack : Slot → Slot → Slot → Slot → ℕ → Type 0
+SlotTookBack root pass root' pass' code = (made : Result (Unit {0}) ℕ) × MatchResult made
+    (λ joined. (root'.full ≡ true) × IsEmpty pass' × HeldJoined root.handle.held pass.handle.held root'.handle.held × (code ≡ OK))
+    (λ why. Holds root' root.handle.held × Holds pass' pass.handle.held × HeldUnjoined root.handle.held pass.handle.held why × (code ≡ why))
+
+abbrev pub SlotJoined : Slot → Slot → Slot → Slot → ℕ → Type 0
+SlotJoined root pass root' pass' code = Either root.full
+    (Either pass.full (SlotTookBack root pass root' pass' code) ((root' ≡ root) × (pass' ≡ pass) × (code ≡ NO_HANDLE)))
+    ((root' ≡ root) × (pass' ≡ pass) × (code ≡ NO_HANDLE))
 
 -- what was behind it is given up
 abbrev pub SlotFreed : Slot → Slot → ℕ → Type 0

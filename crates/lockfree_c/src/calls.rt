@@ -4,7 +4,7 @@
 //! trait. None of them is a `Container`, whose calls may wait. Code that is generic over these traits
 //! links no call that may wait, so a library for programs without a runtime can use it.
 ghost use Rattle.std.specs.Prelude.{◌≡◌, ℕ, MatchOption};
-ghost use Rattle.bounded_model.specs.Laws.{IsFullOfPasses, Leaves, Splits};
+ghost use Rattle.bounded_model.specs.Laws.{IsFullOfPasses, Joins, Leaves, Splits};
 ghost use Rattle.bounded_model.specs.declared.commands.Command.TheVariants.{Put, Take, Look};
 ghost use Rattle.bounded_model.specs.declared.views.PassView.{PassView};
 ghost use Rattle.lockfree_c.specs.Calls.{
@@ -64,6 +64,18 @@ pub trait Ends: Handled {
         requires { (Self.reading self).is_root parent }
         ensures { Leaves (Self.reading self).shape ((Self.reading self).root parent)
             (Self.Rest.left result) };
+}
+
+/// Takes passes back.
+pub trait TakesBack: Handled {
+    /// The container's `join`: the root has now seen what the pass has, and may give its place to
+    /// another pass.
+    fn take_back(&self, parent: &mut Self::Root, by: Self::Pass)
+        requires root { (Self.reading self.now).is_root parent.old }
+        requires pass { (Self.reading self.now).is_pass by }
+        ensures root { (Self.reading self.now).is_root parent.new }
+        ensures gives { let r = Self.reading self.now in
+            Joins (r.root parent.old) (r.pass by) (r.root parent.new) };
 }
 
 /// Continues what was begun.

@@ -19,9 +19,11 @@ ghost use Rattle.lockfree_c.specs.Slots.{
   SlotFolded,
   SlotFreed,
   SlotGauged,
+  SlotJoined,
   SlotNumber,
   SlotSplit,
   SlotWentOn,
+  SlotsMatch,
 };
 
 use crate::answers::{Answer, IN_USE, NO_HANDLE, OK};
@@ -59,6 +61,26 @@ pub extern "C" fn lockfree_split(alloc: Global, root: &mut Slot, pass: &mut Slot
     match root.handle.open_mut().split_boxed(alloc) {
         Ok(held) => {
             pass.put(held);
+            OK
+        }
+        Err(code) => code,
+    }
+}
+
+/// Gives a pass back to the root that it was split from, and empties its slot.
+#[unsafe(no_mangle)]
+pub extern "C" fn lockfree_join(alloc: Global, root: &mut Slot, pass: &mut Slot) -> u32
+    requires slots { IsSlot root.old × IsSlot pass.old }
+    requires same { SlotsMatch root.old pass.old }
+    ensures of { IsSlot root.new × IsSlot pass.new }
+    ensures gives { SlotJoined root.old pass.old root.new pass.new result }
+{
+    if !root.full || !pass.full {
+        return NO_HANDLE;
+    }
+    match root.handle.open_mut().join(pass.handle.open_mut()) {
+        Ok(()) => {
+            drop(pass.take(alloc));
             OK
         }
         Err(code) => code,

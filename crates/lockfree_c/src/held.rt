@@ -10,8 +10,11 @@ ghost use Rattle.lockfree_c.specs.Held.{
   HeldFinished,
   HeldFolded,
   HeldGauged,
+  HeldJoined,
+  HeldMatch,
   HeldNumber,
   HeldSplit,
+  HeldUnjoined,
   HeldWentOn,
   IsHeld,
   refusal_of,
@@ -248,6 +251,25 @@ impl Held {
         match self.split() {
             Ok(held) => Ok(fill(room, held)),
             Err(code) => Err(code),
+        }
+    }
+
+    /// A root takes a pass of its container back. Any other two handles give `OTHER_HANDLE`.
+    pub fn join(&mut self, other: &mut Held) -> Result<(), u32>
+        requires root { IsHeld self.old }
+        requires pass { IsHeld other.old }
+        requires same { HeldMatch self.old other.old }
+        ensures root { IsHeld self.new }
+        ensures gives { MatchResult result
+            (λ joined. HeldJoined self.old other.old self.new)
+            (λ code. (self.new ≡ self.old) × (other.new ≡ other.old)
+            × HeldUnjoined self.old other.old code) }
+    {
+        match (self, other) {
+            (Held::Queue(root), Held::Queue(pass)) => root.join(pass),
+            (Held::Stack(root), Held::Stack(pass)) => root.join(pass),
+            (Held::Ring(root), Held::Ring(pass)) => root.join(pass),
+            _ => Err(OTHER_HANDLE),
         }
     }
 

@@ -1,9 +1,16 @@
 //! What C holds of a container: its root, a pass, or what is left of it.
-ghost use Rattle.std.specs.Prelude.{IfOk};
-ghost use Rattle.lockfree_c.specs.Sides.{IsSide, SideFinished, SideSplit};
+ghost use Rattle.std.specs.Prelude.{◌≡◌, IfOk, MatchResult};
+ghost use Rattle.lockfree_c.specs.Sides.{
+  IsSide,
+  SideFinished,
+  SideJoined,
+  SideSplit,
+  SideUnjoined,
+  SidesMatch,
+};
 
 use crate::answers::{Answer, OTHER_HANDLE, SHARED};
-use crate::calls::Ends;
+use crate::calls::{Ends, TakesBack};
 use crate::pass::PassOf;
 use crate::root::{RootOf, hand_out};
 
@@ -15,6 +22,28 @@ pub enum Side<C, R, P, O, W, L> {
     Pass(PassOf<C, P, O, W>),
     /// The values of a container that was ended that were not handed out yet.
     Rest(L),
+}
+
+impl<C: TakesBack, L: Drop> Side<C, C::Root, C::Pass, C::Operation, C::Work, L> {
+    /// A root takes a pass of its container back. Any other two sides give `OTHER_HANDLE`.
+    pub fn join(
+        &mut self,
+        other: &mut Side<C, C::Root, C::Pass, C::Operation, C::Work, L>,
+    ) -> Result<(), u32>
+        requires root { IsSide C.reading self.old }
+        requires pass { IsSide C.reading other.old }
+        requires same { SidesMatch self.old other.old }
+        ensures root { IsSide C.reading self.new }
+        ensures gives { MatchResult result
+            (λ joined. SideJoined C.reading self.old other.old self.new)
+            (λ code. (self.new ≡ self.old) × (other.new ≡ other.old)
+            × SideUnjoined self.old other.old code) }
+    {
+        match (self, other) {
+            (Side::Root(root), Side::Pass(pass)) => root.join(pass),
+            _ => Err(OTHER_HANDLE),
+        }
+    }
 }
 
 impl<C: Ends> Side<C, C::Root, C::Pass, C::Operation, C::Work, C::Rest> {

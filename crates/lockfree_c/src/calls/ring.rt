@@ -5,7 +5,7 @@ ghost use Rattle.ring_queue.specs.Gauging.{IsGauging};
 ghost use Rattle.ring_queue.specs.Ring.{machine_of};
 ghost use Rattle.lockfree_c.specs.Rings.{CountTried, GaugeTried, WorkedAtMost, count_steps, gauge_steps};
 
-use crate::calls::{AtOnce, BeginsAny, Counts, Ends, Gauges, Handled, Tries};
+use crate::calls::{AtOnce, BeginsAny, Counts, Ends, Gauges, Handled, TakesBack, Tries};
 use crate::steps::{RING_CALL, RING_COUNT, RING_GAUGE, steps_for};
 use crate::work::{Said, Worked};
 use bounded_model::{Command, Reply, Stepped};
@@ -67,6 +67,13 @@ impl Ends for RingQueue<u64> {
     #[inline]
     fn end_with(self, parent: Root<u64>) -> Rest<u64> {
         self.finish(parent)
+    }
+}
+
+impl TakesBack for RingQueue<u64> {
+    #[inline]
+    fn take_back(&self, parent: &mut Root<u64>, by: Pass<u64>) {
+        self.join(parent, by)
     }
 }
 

@@ -7,7 +7,7 @@ ghost use Rattle.treiber_stack.specs.Stack.{begun_of};
 ghost use Rattle.running.specs.Passes.{pass_in};
 ghost use Rattle.lockfree_c.specs.Stacks.{CopiedOn, FoldTried, WorkedAtMost, bulk_steps};
 
-use crate::calls::{AtOnce, BeginsAny, Ends, Gauges, Handled, Tries};
+use crate::calls::{AtOnce, BeginsAny, Ends, Gauges, Handled, TakesBack, Tries};
 use crate::steps::{STACK_BULK, STACK_CALL, steps_for};
 use crate::work::{Said, Worked};
 use bounded_model::{Command, Reply, Stepped};
@@ -77,6 +77,13 @@ impl Ends for Stack<u64> {
     #[inline]
     fn end_with(self, parent: Root<u64>) -> Rest<u64> {
         self.finish(parent)
+    }
+}
+
+impl TakesBack for Stack<u64> {
+    #[inline]
+    fn take_back(&self, parent: &mut Root<u64>, by: Pass<u64>) {
+        self.join(parent, by)
     }
 }
 
