@@ -4,33 +4,35 @@
  * Which one: a stack gives the last value first, a queue and a ring the first. Between threads a
  * ring is faster than a queue, and with more than 2 slots it lasts longer. From 64 slots on each
  * value takes half the memory, and each pass that the ring is made for 20 bytes. So take the ring if
- * you can name the most passes, and the queue if you cannot.
+ * you can name the most passes at one time, and the queue if you cannot.
  *
  * The library keeps a handle in your memory: a root or a pass of one container. All zero bytes are
- * an empty handle. A root gives passes, one to each thread. A pass makes the calls. Each handle has
- * a share of its container, so no pass is used with another container. The last handle of a
- * container that is freed frees the container.
+ * an empty handle. A root gives passes, one to each thread, and takes them back. A pass makes the
+ * calls. Each handle has a share of its container, so no pass is used with another container. The
+ * last handle of a container that is freed frees the container.
  *
- * Five rules that no check can enforce:
+ * Six rules that no check can enforce:
  *   - Zero a handle before its first use. Then only the functions below write it. It may be moved
  *     in memory between calls. Never use a copy of it.
- *   - Give a handle to one call at a time, never a null pointer, and two handles to a _split.
- *     Different handles, also of one container, may be used in different threads at the same time.
- *     If a handle goes to another thread, something orders the two threads: a start or a join, a
- *     lock, or a release and an acquire.
+ *   - Give a handle to one call at a time, never a null pointer, and two handles to a _split or a
+ *     _join. Different handles, also of one container, may be used in different threads at the same
+ *     time. If a handle goes to another thread, something orders the two threads: a start or a join
+ *     of a thread, a lock, or a release and an acquire.
  *   - malloc, realloc and free belong to one allocator, whose memory is aligned as the C standard
  *     says.
  *   - If a lockfree_put_range was BUSY, call it again with the same array, unchanged.
  *   - Make no call in a signal handler, or in the child of a fork of a process with threads.
+ *   - Join a pass to the root that it was split from. (_join finds that a pass is of another
+ *     container, but no proof says so: two such mistakes at the same time can hide each other.)
  *
  * A code answers any other misuse of a handle, and any other failure of a call. Then nothing has
  * changed but what is said here. Everything that a thread wrote before a put is visible to the
  * thread that takes the value. Everything that it wrote before a close is visible to a thread that
- * is answered CLOSED. Only the calls that make a container, _split, _free and the first _finish of a
- * container take or give back memory. Apart from what malloc and free do, no call waits for another
- * thread: it is proved that each returns, and how many steps one with tries makes at most
- * (docs/c-api.md). The inline functions at the end continue until they have another answer than
- * BUSY.
+ * is answered CLOSED. Only the calls that make a container, _split, _join, _free and the first
+ * _finish of a container take or give back memory. Apart from what malloc and free do, no call
+ * waits for another thread: it is proved that each returns, and how many steps one with tries makes
+ * at most (docs/c-api.md). The inline functions at the end continue until they have another answer
+ * than BUSY.
  */
 #ifndef LOCKFREE_H
 #define LOCKFREE_H
@@ -77,14 +79,15 @@ enum {
     LOCKFREE_NO_CALL = 8,       /* go_on: the pass has no call under way, or one that
                                    lockfree_put_range continues */
     LOCKFREE_NO_MEMORY = 9,
-    LOCKFREE_NO_PASS = 10,      /* split: the root has given as many passes as it may, 65,535; in a
-                                   ring, as it was made for */
+    LOCKFREE_NO_PASS = 10,      /* split: as many passes are out as may be, 65,535; in a ring, as it
+                                   was made for. One that was freed, and not joined, stays out */
     LOCKFREE_BAD_CAPACITY = 11, /* new: a capacity is 1 to 1,048,573. limited: and a limit of tags 2
                                    to 2^42 - 1. A ring: see lockfree_ring_new */
     LOCKFREE_OTHER_HANDLE = 12, /* a root instead of a pass, or a pass instead of a root; or a call
                                    that this container does not have: a fold or a range of a queue
-                                   or a ring, a count of a stack */
-    LOCKFREE_NO_HANDLE = 13,    /* the handle is empty: never made, or freed */
+                                   or a ring, a count of a stack. join: a pass of another
+                                   container */
+    LOCKFREE_NO_HANDLE = 13,    /* the handle is empty: never made, joined, or freed */
     LOCKFREE_IN_USE = 14,       /* the handle to be made is not empty */
     LOCKFREE_VALUE = 15,        /* fold: value is the next one, and the fold is under way: continue
                                    it by lockfree_go_on. finish: value is the next one of what is
@@ -133,7 +136,8 @@ uint32_t lockfree_stack_limited(lockfree_handle *root, uint32_t capacity, uint64
  * the back has its last value), and takes still succeed.
  * _limited: each slot can be filled `laps` times, 1 to 2^41 - 1, else it is BAD_CAPACITY too: for
  * tests of what a program does once a ring is SPENT.
- * A pass that is freed is not given again: it counts among those that the ring was made for.
+ * So many passes may be out at one time: a pass that was joined makes room for another one, and one
+ * that was freed does not.
  * OK, BAD_CAPACITY, NO_MEMORY, IN_USE. */
 uint32_t lockfree_ring_new(lockfree_handle *root, uint32_t capacity, uint32_t passes);
 uint32_t lockfree_ring_limited(lockfree_handle *root, uint32_t capacity, uint64_t laps,
@@ -142,18 +146,32 @@ uint32_t lockfree_ring_limited(lockfree_handle *root, uint32_t capacity, uint64_
 /* A new pass in an empty handle. OK, NO_PASS, NO_MEMORY, OTHER_HANDLE, NO_HANDLE, IN_USE. */
 uint32_t lockfree_split(lockfree_handle *root, lockfree_handle *pass);
 
+/* Gives a pass back to the root that it was split from, and empties its handle. Then the root can
+ * split off another pass in its place: so a ring for n passes serves any number of threads, n at a
+ * time. Once each pass of a container was joined, lockfree_finish hands out exactly the values that
+ * were put and not taken. If the answer is not OK, both handles are as they were.
+ * UNDER_WAY:    the pass has a call under way: lockfree_go_on first (after a lockfree_put_range the
+ *               same call again), or lockfree_free
+ * OTHER_HANDLE: `root` is a pass or its container was ended, `pass` is no pass, or they are of two
+ *               containers
+ * NO_HANDLE:    one of the two is empty
+ * OK, UNDER_WAY, OTHER_HANDLE, NO_HANDLE. */
+uint32_t lockfree_join(lockfree_handle *root, lockfree_handle *pass);
+
 /* Gives up a root or a pass, and empties the handle. A call that is under way ends where it is: its
  * value is out of reach, and its cell stays held. Of a fold, the values that it has not handed out
  * are out of reach, and all of its cells stay held. Of a put_range, all of its values are out of
- * reach, and the cells that it has stay held. OK, NO_HANDLE. */
+ * reach, and the cells that it has stay held. The root gives no pass in place of one that is freed:
+ * join it for that. OK, NO_HANDLE. */
 uint32_t lockfree_free(lockfree_handle *handle);
 
 /* Ends a container whose root is its only handle, and hands out what is left in it, one value an
  * answer: a queue's or a ring's from the front, a stack's from the top. It asks for no memory, no
  * pass and no tag. So it also empties a spent container. If another handle of the container is out,
- * it answers SHARED and nothing has changed: free the passes first. After its first VALUE or EMPTY
- * the root gives no pass (OTHER_HANDLE). lockfree_free then ends the root, with the values that
- * were not handed out. A value that a freed pass had under way is not among those that are left.
+ * it answers SHARED and nothing has changed: join or free the passes first. After its first VALUE
+ * or EMPTY the root gives no pass and takes none back (OTHER_HANDLE). lockfree_free then ends the
+ * root, with the values that were not handed out. A value that a freed pass had under way is not
+ * among those that are left.
  * VALUE, EMPTY, SHARED, OTHER_HANDLE, NO_HANDLE. */
 lockfree_answer lockfree_finish(lockfree_handle *root);
 

@@ -14,7 +14,7 @@ enum { SLOTS = 6, CALLS = 60, MOST = 6, ADDED = 9 };
 struct model {
     bool stack, ring;
     uint32_t capacity;
-    uint32_t passes; /* that a ring has yet to give */
+    uint32_t passes; /* that a ring can give now */
     uint64_t laps;   /* how often a slot of a ring can be filled; of the others the limit of their tags */
     uint64_t values[MOST];
     uint32_t size;
@@ -179,6 +179,33 @@ static void split(struct slot *root)
     root->of->passes -= root->of->ring;
     pass->kind = PASS, pass->of = root->of, pass->number = 0;
     root->of->handles++;
+}
+
+/* A pass goes to its root, or to what is not its root. */
+static void join(struct slot *root)
+{
+    struct slot *pass = &slots[below(SLOTS)];
+    if (pass == root)
+        return;
+    may_refuse();
+    uint32_t code = lockfree_join(&root->handle, &pass->handle);
+    CHECK(!was_refused());
+    if (root->kind == NONE || pass->kind == NONE) {
+        CHECK(code == LOCKFREE_NO_HANDLE);
+        return;
+    }
+    const struct model *a = root->of, *b = pass->of;
+    if (root->kind != ROOT || pass->kind == ROOT || pass->kind == REST || a->stack != b->stack || a->ring != b->ring) {
+        CHECK(code == LOCKFREE_OTHER_HANDLE);
+        return;
+    }
+    if (pass->kind == FOLD || a != b) {
+        CHECK(code == (pass->kind == FOLD ? LOCKFREE_UNDER_WAY : LOCKFREE_OTHER_HANDLE));
+        return;
+    }
+    CHECK(code == LOCKFREE_OK);
+    root->of->passes += root->of->ring;
+    forget(pass);
 }
 
 static void put(struct slot *slot)
@@ -398,7 +425,7 @@ static void move(struct slot *slot)
 
 /* Calls that fill and empty come more often. */
 typedef void call(struct slot *slot);
-static call *const calls[] = {make, split, split, put, put, put, take, take, close_it, shut_it, look, number, fold, go_on, go_on, put_array, put_array, count, gauge, finish, give_up, move};
+static call *const calls[] = {make, split, split, join, put, put, put, take, take, close_it, shut_it, look, number, fold, go_on, go_on, put_array, put_array, count, gauge, finish, give_up, move};
 
 static void sequence(void)
 {
