@@ -70,7 +70,7 @@ static void more_than_are_given(make_new *make, bool stack)
     CHECK(is_ok(make(&root, 4)));
     for (uint64_t i = 0; i < GIVEN; i++) {
         CHECK(is_ok(lockfree_split(&root, &pass)) && lockfree_number(&pass).value == 0);
-        CHECK(is_ok(lockfree_push(&pass, i)) && lockfree_number(&pass).value == (stack ? i + i / 2 : i));
+        CHECK(is_ok(lockfree_push(&pass, i)) && lockfree_number(&pass).value == (stack ? i + i / 2 * 2 : i));
         if (i % 2)
             CHECK(is_ok(lockfree_pop(&pass, &value)) && is_ok(lockfree_pop(&pass, &value)) && value == (stack ? i - 1 : i));
         CHECK(is_ok(lockfree_join(&root, &pass)) && !pass.full);
