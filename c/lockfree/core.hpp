@@ -147,7 +147,7 @@ public:
             const std::lock_guard<std::mutex> guard(lock);
             finished = true;
             for (seat *at = made.load(std::memory_order_acquire); at; at = at->next_made) {
-                at->pass.free();
+                root.join(at->pass);
                 at->held.store(0, std::memory_order_relaxed);
             }
         }

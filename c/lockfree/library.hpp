@@ -67,6 +67,10 @@ struct handle : lockfree_handle {
     handle &operator=(const handle &) = delete;
     ~handle() { free(); }
     void free() noexcept { lockfree_free(this); }
+    /// Of a root: takes back a pass that it has split off. One that it does not take is freed.
+    void join(handle &pass) noexcept {
+        if (lockfree_join(this, &pass) != LOCKFREE_OK) pass.free();
+    }
     bool is_empty() const noexcept { return !at; }
     void swap(handle &other) noexcept {
         std::swap(static_cast<lockfree_handle &>(*this), static_cast<lockfree_handle &>(other));

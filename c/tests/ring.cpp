@@ -52,6 +52,22 @@ void one_pass_more() {
     CHECK(last && !container.try_split());
 }
 
+/// A thousand threads in turn, by two passes, and exactly what is left at the end.
+void a_thousand_threads_in_turn() {
+    ring container(4, pass_limit{2});
+    std::string out;
+    for (int number = 0; number < 1000; ++number) {
+        std::thread([&] {
+            auto mine = container.split();
+            CHECK(mine.push(std::to_string(number)));
+        }).join();
+        if (number < 997) CHECK(container.pop(out) && out == std::to_string(number));
+    }
+    std::vector<std::string> left;
+    CHECK(container.finish([&](std::string &&value) { left.push_back(std::move(value)); }) == status::ok);
+    CHECK((left == std::vector<std::string>{"997", "998", "999"}));
+}
+
 /// As many threads at a time as passes, of containers of other sizes.
 void as_many_threads() {
     for (const std::size_t passes : {1u, 3u, 40u}) {
@@ -128,6 +144,7 @@ void closes() {
 
 int main() {
     one_pass_more();
+    a_thousand_threads_in_turn();
     as_many_threads();
     limits();
     wears_out();

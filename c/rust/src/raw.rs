@@ -57,6 +57,7 @@ extern "C" {
     fn lockfree_stack_limited(root: *mut Handle, capacity: u32, tag_limit: u64) -> Code;
     fn lockfree_ring_limited(root: *mut Handle, capacity: u32, laps: u64, passes: u32) -> Code;
     fn lockfree_split(root: *mut Handle, pass: *mut Handle) -> Code;
+    fn lockfree_join(root: *mut Handle, pass: *mut Handle) -> Code;
     fn lockfree_free(handle: *mut Handle) -> Code;
     fn lockfree_finish(root: *mut Handle) -> Answer;
     fn lockfree_put(pass: *mut Handle, value: Word, tries: u64) -> Answer;
@@ -132,6 +133,12 @@ impl Root {
         let mut pass = RawPass::none();
         // SAFETY: both handles are this call's alone, and the second is empty.
         unsafe { lockfree_split(&mut self.0, &mut pass.0) }.made().map(|()| pass)
+    }
+
+    /// Takes back a pass that it has split off, so that it can split off another one.
+    pub(crate) fn join(&mut self, mut pass: RawPass) {
+        // SAFETY: both handles are this call's alone. A pass that is not joined, as an empty one, is freed.
+        unsafe { lockfree_join(&mut self.0, &mut pass.0) };
     }
 
     /// Takes what is left, one word after another. There is none as long as a pass is out, or if there is no container.

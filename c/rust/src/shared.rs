@@ -3,6 +3,8 @@ use crate::cells::{self, Cells, Hand};
 use crate::lending::{self, Places};
 use crate::raw::{Code, Kind, RawPass, Root};
 use crate::{MakeError, PopError, PushError};
+use std::iter;
+use std::mem;
 use std::panic::{catch_unwind, resume_unwind, AssertUnwindSafe};
 use std::sync::atomic::{AtomicBool, Ordering};
 use std::sync::{Arc, Mutex, MutexGuard, PoisonError, TryLockError};
@@ -32,15 +34,12 @@ struct Seats<T> {
     root: Root,
     resting: Vec<Seat<T>>,
     made: usize,
-    /// A pass that was split off for a seat for which there was no memory then. The library gives no pass twice, so it is
-    /// the next seat's.
-    half_made: Option<RawPass>,
 }
 
 impl<T> Core<T> {
     pub(crate) fn new(kind: Kind, capacity: u32) -> Result<Core<T>, MakeError> {
         let root = Root::new(kind, capacity)?;
-        let mut seats = Seats { root, resting: Vec::new(), made: 0, half_made: None };
+        let mut seats = Seats { root, resting: Vec::new(), made: 0 };
         let cells = Cells::new(kind, capacity)?;
         let own = Mutex::new(seats.seat(&cells)?);
         Ok(Core {
@@ -119,13 +118,16 @@ impl<T> Core<T> {
         });
     }
 
-    /// Ends all seats, when nobody has one any more.
+    /// Ends all seats, when nobody has one any more. The root takes their passes back, so what it hands out then is exactly
+    /// what is left.
     fn end_seats(&mut self) {
-        let seats = self.seats.get_mut().unwrap_or_else(PoisonError::into_inner);
-        seats.resting.clear();
-        seats.half_made = None;
+        let Seats { root, resting, .. } = self.seats.get_mut().unwrap_or_else(PoisonError::into_inner);
+        let own = self.own.get_mut().unwrap_or_else(PoisonError::into_inner);
+        let called = iter::from_fn(|| self.places.take_a_seat());
+        for seat in resting.drain(..).chain(called).chain([mem::replace(own, Seat::none())]) {
+            root.join(seat.pass);
+        }
         self.places = Places::new();
-        *self.own.get_mut().unwrap_or_else(PoisonError::into_inner) = Seat::none();
     }
 
     /// The next value that is left, when there is no seat any more. A container that was shut or is spent gives it too.
@@ -219,17 +221,14 @@ impl<T> Seats<T> {
         // There is room for each seat that was made, so that a pass that is dropped asks for no memory.
         let room = self.made + 1;
         self.resting.try_reserve(room).map_err(|_| MakeError::NoMemory)?;
-        let pass = match self.half_made.take() {
-            Some(pass) => pass,
-            None => self.root.split()?,
-        };
+        let pass = self.root.split()?;
         match cells.hand() {
             Ok(hand) => {
                 self.made = room;
                 Ok(Seat { pass, hand })
             }
             Err(why) => {
-                self.half_made = Some(pass);
+                self.root.join(pass);
                 Err(why)
             }
         }

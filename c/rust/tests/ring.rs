@@ -24,6 +24,22 @@ fn one_thread() {
 }
 
 #[test]
+fn a_thousand_threads_in_turn_use_two_passes() {
+    let ring = Ring::with_passes(4, 2).unwrap();
+    let mut taker = ring.pass().unwrap();
+    for number in 0..1000 {
+        std::thread::scope(|scope| {
+            scope.spawn(|| ring.pass().unwrap().push(number.to_string()).unwrap());
+        });
+        if number < 997 {
+            assert_eq!(taker.pop(), Ok(number.to_string()));
+        }
+    }
+    drop(taker);
+    assert_eq!(ring.into_iter().collect::<Vec<_>>(), ["997", "998", "999"]);
+}
+
+#[test]
 fn one_pass_more_than_it_was_made_for_is_refused() {
     for passes in [1, 3, 200] {
         let ring = Ring::<[u64; 3]>::with_passes(4, passes).unwrap();
