@@ -162,6 +162,15 @@ struct waits_of {
     static batch pop_many(By &by, Again &again, Out &to, std::size_t most) {
         return by.take_waiting(to, most, again);
     }
+    // The same of calls that do not wait, without copies of the iterators.
+    template <class By, class It>
+    static put_range_result<It> push_range(By &by, It &begin, It &end) {
+        std::size_t count = 0;
+        return by.push_until(begin, end, count);
+    }
+    template <class By, class Out> static batch pop_up_to(By &by, Out &to, std::size_t most) {
+        return by.take_to(to, most);
+    }
 };
 
 /// The calls of `blocking` and of its passes. They are those of the container, with its statuses,
@@ -174,17 +183,22 @@ template <class Me, class Inner> class blocking_calls {
 public:
     using value_type = T;
 
-    status try_push(const T &value) { return pushed([&] { return inner().try_push(value); }); }
+    status try_push(const T &value) {
+        share_in_call<const T &> all = waiting();
+        return pushed(all, inner().try_push(value));
+    }
     status try_push(T &&value) {
-        return pushed([&] { return inner().try_push(std::move(value)); });
+        share_in_call<T> all = waiting();
+        return pushed(all, inner().try_push(std::move(value)));
     }
     template <class D, class = std::enable_if_t<is_unreturnable<T, D>>>
     status try_push(D &&value) = delete;
     template <class... Args> status try_emplace(Args &&...args) {
-        return pushed([&] { return inner().try_emplace(std::forward<Args>(args)...); });
+        share_in_call<Args...> all = waiting();
+        return pushed(all, inner().try_emplace(std::forward<Args>(args)...));
     }
     template <class It> put_range_result<It> try_push(It begin, It end) {
-        return pushed_many([&] { return inner().try_push(begin, end); });
+        return pushed_many([&] { return waits_of::push_range(inner(), begin, end); });
     }
     template <class R> auto try_push_range(R &&range) {
         return pushed_many([&] { return inner().try_push_range(range); });
@@ -197,7 +211,7 @@ public:
         return popped([&] { return inner().try_pop(); });
     }
     template <class Out> batch try_pop(Out to, std::size_t most) {
-        return popped([&] { return inner().try_pop(to, most); });
+        return popped([&] { return waits_of::pop_up_to(inner(), to, most); });
     }
     template <class F> status try_consume_one(F &&use) {
         return popped([&] { return inner().try_consume_one(use); });
@@ -265,12 +279,12 @@ private:
     auto &inner() noexcept { return static_cast<Me &>(*this).calls_of(); }
     const share_of_waiters &waiting() noexcept { return static_cast<Me &>(*this).all_waiters(); }
 
-    using share_in_call =
-        std::conditional_t<goes_by_value<T>, const share_of_waiters &, const share_of_waiters>;
+    /// A share, or if the call runs no function of a user the object's own.
+    template <class... Args> using share_in_call =
+        std::conditional_t<is_plain_word<T, Args...>, const share_of_waiters &,
+                           const share_of_waiters>;
 
-    template <class Call> status pushed(Call &&call) {
-        share_in_call all = waiting();
-        const status what = call();
+    static status pushed(const share_of_waiters &all, status what) noexcept {
         if (what == status::ok) all->for_value.wake_one();
         if (what == status::spent) all->for_value.wake_all();  // (nothing comes any more)
         return what;
@@ -301,8 +315,7 @@ private:
     template <class Stop, class... Args> status push_until(Stop &stop, Args &&...args) {
         const share_of_waiters all = waiting();
         sleep_of<Stop> again(all->for_room, stop);
-        return pushed(
-            [&] { return waits_of::push(inner(), again, std::forward<Args>(args)...); });
+        return pushed(all, waits_of::push(inner(), again, std::forward<Args>(args)...));
     }
     template <class Stop, class F> status pop_until(Stop &stop, F &&use) {
         const share_of_waiters all = waiting();

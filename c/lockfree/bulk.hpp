@@ -11,6 +11,7 @@
 #include <iterator>
 #include <memory>
 #include <new>
+#include <optional>
 #include <type_traits>
 #include <utility>
 
@@ -114,9 +115,10 @@ private:
     }
 };
 
-/// Puts a range at once, and tells how many of it. `ok` if all of them.
+/// Puts a range at once, and tells how many of it. `ok` if all of them. The functions of its
+/// iterators are a user's, so they run while the seat is in use.
 template <class T, class It, class End>
-status put_range(core &of, seat &by, It begin, End end, std::size_t &put) {
+status put_range(core &of, seat &by, const It &begin, End &end, std::size_t &put) {
     const in_use<T> user(of, by);
     std::size_t most = 0;
     It rest = begin;
@@ -129,6 +131,19 @@ status put_range(core &of, seat &by, It begin, End end, std::size_t &put) {
     put = range.put();
     if (what != status::ok || made != status::ok) return what != status::ok ? what : made;
     return put < most ? status::no_memory : rest == end ? status::ok : status::full;
+}
+
+/// Puts a range one value after another, from `begin` on, which is then at the first that was not
+/// put. `stopped` if a function of T or of an iterator has ended the pass or the container.
+template <class T, kind K, class It, class End>
+status put_each(core &of, seat &by, It &begin, End &end, std::size_t &put) {
+    const in_use<T> user(of, by);
+    for (; begin != end; (void)++begin, (void)++put) {
+        if (by.is_left) return status::stopped;
+        const status what = detail::put_value<T, K>(of, by, tries_once, *begin);
+        if (what != status::ok) return what;
+    }
+    return status::ok;
 }
 
 /// The ends of a range, also of one whose end is of another type, by std::begin or by its own.
@@ -159,7 +174,8 @@ public:
         return result.next;
     }
     template <class It> It bounded_push(It begin, It end) { return push(begin, end); }
-    /// The same, with the reason if not all were pushed: full, closed, spent, no_memory, no_pass.
+    /// The same, with the reason if not all were pushed: full, closed, spent, no_memory, no_pass;
+    /// `stopped` if a function of T or of an iterator has destroyed the container or pass.
     template <class It> put_range_result<It> try_push(It begin, It end) {
         std::size_t count = 0;
         return push_until(begin, end, count);
@@ -168,27 +184,25 @@ public:
     /// sentinel of another type. The iterator that it returns is one of `range`.
     template <class R> auto push_range(R &&range) {
         std::size_t count = 0;
-        auto result = push_until(detail::begin_of(range), detail::end_of(range), count);
+        auto result = push_all_of(range, count);
         if (count == 0) throw_if_not_made(result.what);
         return std::move(result.next);
     }
     template <class R> auto try_push_range(R &&range) {
         std::size_t count = 0;
-        return push_until(detail::begin_of(range), detail::end_of(range), count);
+        return push_all_of(range, count);
     }
 
     /// Takes up to `most` values, one after another, and assigns them to `to`, to the next place of
     /// it, and so on. Returns how many it took.
     template <class Out> std::size_t pop(Out to, std::size_t most) {
-        const batch taken = try_pop(to, most);
+        const batch taken = take_to(to, most);
         if (taken.count == 0) throw_if_not_made(taken.what);
         return taken.count;
     }
     /// The same, with the reason if there were fewer: empty, closed, shut, spent, no_memory,
     /// no_pass; `stopped` if a function of T has destroyed the container or pass.
-    template <class Out> batch try_pop(Out to, std::size_t most) {
-        return me().take_up_to(most, assigns_to(to));
-    }
+    template <class Out> batch try_pop(Out to, std::size_t most) { return take_to(to, most); }
     /// Waits for a first value as pop_wait(to, stop) does, and then takes up to `most` values
     /// without waiting. Returns how many it took, and why not more: `empty` if no more were there,
     /// and if it took none `stopped`, closed, shut, spent, no_memory or no_pass.
@@ -208,22 +222,42 @@ private:
         };
     }
 
+    // Iterators come by reference, and the ends of a range are asked for while the seat is in use: a
+    // function of theirs may destroy this object.
+
     /// `count` is how many were pushed.
     template <class It, class End>
-    put_range_result<It> push_until(It begin, End end, std::size_t &count) {
-        status what = status::ok;
-        if constexpr (K == kind::stack && reads_twice<It>) {
-            what = me().with([&](core &of, seat &by) {
-                return detail::put_range<T>(of, by, begin, end, count);
-            });
-            for (std::size_t i = 0; i < count; ++i) (void)++begin;
-        } else {
-            for (; begin != end; (void)++begin, (void)++count)
-                if ((what = me().try_emplace(*begin)) != status::ok) break;
-        }
+    put_range_result<It> push_until(It &begin, End &end, std::size_t &count) {
+        const status what = me().with(
+            [&](core &of, seat &by) { return push_by(of, by, begin, end, count); });
         return {std::move(begin), what};
     }
+    template <class R> auto push_all_of(R &range, std::size_t &count) {
+        using iterator = decltype(detail::begin_of(range));
+        std::optional<iterator> begin;
+        const status what = me().with([&](core &of, seat &by) {
+            const in_use<T> user(of, by);
+            begin.emplace(detail::begin_of(range));
+            auto end = detail::end_of(range);
+            return push_by(of, by, *begin, end, count);
+        });
+        if (!begin) begin.emplace(detail::begin_of(range));
+        return put_range_result<iterator>{std::move(*begin), what};
+    }
+    template <class It, class End>
+    static status push_by(core &of, seat &by, It &begin, End &end, std::size_t &count) {
+        if constexpr (K == kind::stack && reads_twice<It>) {
+            const status what = detail::put_range<T>(of, by, begin, end, count);
+            for (std::size_t i = 0; i < count; ++i) (void)++begin;
+            return what;
+        } else {
+            return detail::put_each<T, K>(of, by, begin, end, count);
+        }
+    }
 
+    template <class Out> batch take_to(Out &to, std::size_t most) {
+        return me().take_up_to(most, assigns_to(to));
+    }
     template <class Out, class Again> batch take_waiting(Out &to, std::size_t most, Again &again) {
         if (most == 0) return {0, status::ok};
         auto use = assigns_to(to);

@@ -47,10 +47,6 @@ template <class T, class F> inline constexpr bool uses_without_throwing =
     std::is_invocable_v<F &, T &&> ? std::is_nothrow_invocable_v<F &, T &&>
                                    : std::is_nothrow_invocable_v<F &, T &>;
 
-/// Whether these are one rvalue of T, which is moved back if it is refused.
-template <class T, class... Args> inline constexpr bool is_one_rvalue = false;
-template <class T, class Arg> inline constexpr bool is_one_rvalue<T, Arg> = std::is_same_v<Arg, T>;
-
 struct waits_of;
 
 /// The calls that all containers and their passes have, beside those of gauges.hpp and bulk.hpp.
@@ -170,7 +166,8 @@ public:
     /// Takes the next value and hands it to `use`, as T&& if `use` takes that, else as T&. Returns
     /// false if there was none. The value is destroyed when `use` returns or throws. `use` may call
     /// the container or pass, and it may move or destroy it: then what it had goes back when this
-    /// call returns. So may the destructor of a T, here and in all calls.
+    /// call returns. So may, here and in all calls, each function of a T, of an iterator or of a
+    /// stop that the call runs.
     template <class F> bool consume_one(F &&use) { return said(try_consume_one(use)); }
     template <class F>
     status try_consume_one(F &&use) noexcept(uses_without_throwing<T, F>) {
@@ -217,19 +214,20 @@ private:
     Me &me() noexcept { return static_cast<Me &>(*this); }
 
     /// A value that is its own word needs no cell, so its push is one call of the library. The word
-    /// is made before the seat is looked for, so that it stays in a register.
+    /// is made before the seat is looked for, so that it stays in a register. Where a function of a
+    /// user makes it, the seat is there before: that function may destroy this object.
     template <class Again> [[gnu::always_inline]] status put_one(Again &again, std::uint64_t word) {
         return heard(again, me().with([&again, word](core &of, seat &by) {
-            return told(by, detail::put_word<T>(of, by, word, again));
+            return detail::put_word<T, K>(of, by, word, again);
         }));
     }
     template <class Again, class... Args> status make(Again &again, Args &&...args) {
-        if constexpr (goes_by_value<T>) {
+        if constexpr (is_plain_word<T, Args...>) {
             const T value(std::forward<Args>(args)...);
             return put_one(again, detail::word_of_value(value));
         } else {
             return heard(again, me().with([&](core &of, seat &by) {
-                return told(by, detail::put_made<T>(of, by, again, std::forward<Args>(args)...));
+                return detail::put_made<T, K>(of, by, again, std::forward<Args>(args)...);
             }));
         }
     }
@@ -238,17 +236,13 @@ private:
             return put_one(again, detail::word_of_value(value));
         } else {
             return heard(again, me().with([&](core &of, seat &by) {
-                return told(by, detail::put_moved<T>(of, by, again, value));
+                return detail::put_moved<T, K>(of, by, again, value);
             }));
         }
     }
     template <class Again, class... Args> status put(Again &again, Args &&...args) {
         if constexpr (is_one_rvalue<T, Args...>) return move(again, args...);
         else return make(again, std::forward<Args>(args)...);
-    }
-    static status told(seat &by, status what) noexcept {
-        if (what == status::ok) by.tally<K>(1);
-        return what;
     }
     /// A call that waits is full only because it was stopped.
     template <class Again> static status heard(Again &, status what) noexcept {

@@ -168,39 +168,51 @@ inline status refused(core &of, std::uint32_t code) noexcept {
     return code <= LOCKFREE_EMPTY ? static_cast<status>(code) : detail::noted(of, code);
 }
 
+/// A put that succeeded. It counts here, while the seat is surely this call's: if a function of a
+/// user has left the seat, it goes back before the call returns.
+template <kind K> status put_done(seat &by) noexcept {
+    by.tally<K>(1);
+    return status::ok;
+}
+
 /// Whether a call tries again once it was refused.
 template <class Again> inline constexpr bool waits = !std::is_same_v<Again, decltype(tries_once)>;
 
 /// Goes on with a put that was refused with `code`: while the container is full, it tries again as
 /// long as `again()` returns true, and the pass or container is there.
-template <class T, class Again> [[gnu::noinline]] status
+template <class T, kind K, class Again> [[gnu::noinline]] status
 put_again(core &of, seat &by, std::uint64_t word, std::uint32_t code, Again &again) {
     const in_use<T> user(of, by);
     while (code == LOCKFREE_FULL && again() && !by.is_left) {
         gives(&of);
         code = put(by.pass, word).code;
-        if (code == LOCKFREE_OK) return status::ok;
+        if (code == LOCKFREE_OK) return put_done<K>(by);
     }
     return refused(of, code);
 }
 /// Puts a word; while the container is full, it tries again as long as `again()` returns true.
-template <class T, class Again> [[gnu::always_inline]] inline status
+template <class T, kind K, class Again> [[gnu::always_inline]] inline status
 put_word(core &of, seat &by, std::uint64_t word, Again &again) {
     gives(&of);
     const std::uint32_t code = put(by.pass, word).code;
-    if (__builtin_expect(code == LOCKFREE_OK, 1)) return status::ok;
-    if constexpr (waits<Again>) return detail::put_again<T>(of, by, word, code, again);
+    if (__builtin_expect(code == LOCKFREE_OK, 1)) return put_done<K>(by);
+    if constexpr (waits<Again>) return detail::put_again<T, K>(of, by, word, code, again);
     else return refused(of, code);
 }
 
-/// Puts a value that is made of `args` in its place.
-template <class T, class Again, class... Args>
+/// Whether a value is its own word, and no function of a user runs when it is made of these.
+template <class T, class... Args> inline constexpr bool is_plain_word =
+    goes_by_value<T> && std::is_trivially_constructible_v<T, Args...>;
+
+/// Puts a value that is made of `args`, in its place if it lies in a cell. Its constructor, and the
+/// conversions of `args`, are functions of a user, so the seat is in use.
+template <class T, kind K, class Again, class... Args>
 status put_made(core &of, seat &by, Again &again, Args &&...args) {
+    const in_use<T> user(of, by);
     if constexpr (goes_by_value<T>) {
         const T value(std::forward<Args>(args)...);
-        return detail::put_word<T>(of, by, detail::word_of_value(value), again);
+        return detail::put_word<T, K>(of, by, detail::word_of_value(value), again);
     } else {
-        const in_use<T> user(of, by);
         held_cell cell(of, by);
         if (const status found = cell.find(again); found != status::ok) return found;
         T *const value = ::new (cell.at()) T(std::forward<Args>(args)...);
@@ -210,7 +222,7 @@ status put_made(core &of, seat &by, Again &again, Args &&...args) {
                 if (value) value->~T();
             }
         } made{value};
-        const status what = detail::put_word<T>(of, by, cell.word(), again);
+        const status what = detail::put_word<T, K>(of, by, cell.word(), again);
         if (what != status::ok) return what;
         made.value = nullptr;
         cell.given_away();
@@ -219,9 +231,10 @@ status put_made(core &of, seat &by, Again &again, Args &&...args) {
 }
 
 /// Puts a value by moving it; if it is refused, or `again` throws, it is moved back.
-template <class T, class Again> status put_moved(core &of, seat &by, Again &again, T &value) {
+template <class T, kind K, class Again>
+status put_moved(core &of, seat &by, Again &again, T &value) {
     if constexpr (goes_by_value<T>) {
-        return detail::put_word<T>(of, by, detail::word_of_value(value), again);
+        return detail::put_word<T, K>(of, by, detail::word_of_value(value), again);
     } else {
         const in_use<T> user(of, by);
         held_cell cell(of, by);
@@ -235,12 +248,24 @@ template <class T, class Again> status put_moved(core &of, seat &by, Again &agai
                 detail::move_back(*moved, from);
             }
         } made{::new (cell.at()) T(std::move(value)), value};
-        const status what = detail::put_word<T>(of, by, cell.word(), again);
+        const status what = detail::put_word<T, K>(of, by, cell.word(), again);
         if (what != status::ok) return what;
         made.moved = nullptr;
         cell.given_away();
         return what;
     }
+}
+
+/// Whether these are one rvalue of T, which is moved back if it is refused.
+template <class T, class... Args> inline constexpr bool is_one_rvalue = false;
+template <class T, class Arg> inline constexpr bool is_one_rvalue<T, Arg> = std::is_same_v<Arg, T>;
+
+/// Puts a value: an rvalue of T by moving it, else one that is made of `args`.
+template <class T, kind K, class Again, class... Args>
+status put_value(core &of, seat &by, Again &again, Args &&...args) {
+    if constexpr (is_one_rvalue<T, Args...>)
+        return detail::put_moved<T, K>(of, by, again, args...);
+    else return detail::put_made<T, K>(of, by, again, std::forward<Args>(args)...);
 }
 
 /// Takes a value by a seat that is in use, and hands it to `use`.

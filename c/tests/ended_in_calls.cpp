@@ -1,9 +1,12 @@
 // A pass or a container that ends, or is moved, in a function that a call of it runs: of consume_one,
-// consume_all, a fold, a value's destructor, a stop. What it had goes back when the call returns, and
-// its seat has one user at a time.
+// consume_all, a fold, a value's constructor or destructor, a conversion, an iterator, a range, a
+// stop. What it had goes back when the call returns, and its seat has one user at a time.
 #include "lockfree.hpp"
 #include "check.hpp"
 
+#include <cstddef>
+#include <functional>
+#include <iterator>
 #include <memory>
 #include <optional>
 #include <string>
@@ -170,6 +173,127 @@ void stops_end() {
     CHECK(words.push(1) && word_pass->push_wait(2, [&] { return word_pass.reset(), false; }) == status::stopped && !word_pass);
 }
 
+/// An argument of a push. It ends the pass or the container when a value is made of it: of a value
+/// that is its own word and has a constructor, of one that lies in a cell, or by a conversion.
+struct ending {
+    const std::function<void()> &end;
+    operator long() const { return end(), 7; }
+};
+struct word_made {
+    int number;
+    explicit word_made(const ending &by) : number(static_cast<int>(long{by})) {}
+};
+struct cell_made {
+    counted number;
+    explicit cell_made(const ending &by) : number(by) {}
+};
+static_assert(lockfree::detail::goes_by_value<word_made> && !lockfree::detail::goes_by_value<cell_made>);
+long number_of(long it) { return it; }
+long number_of(const word_made &it) { return it.number; }
+long number_of(const cell_made &it) { return *it.number.number; }
+
+template <class Container> void constructors_end() {
+    auto container = std::make_unique<Container>();
+    std::optional<typename Container::pass> pass(container->split());
+    const std::function<void()> pass_ends = [&] { pass.reset(); }, container_ends = [&] { container.reset(); };
+    CHECK(pass->try_emplace(ending{pass_ends}) == status::ok && !pass);
+    const auto value = container->pop();
+    CHECK(value && number_of(*value) == 7 && container->empty());
+    pass.emplace(container->split());
+    CHECK(container->emplace(ending{container_ends}) && !container);
+    CHECK(number_of(*pass->pop()) == 7 && pass->emplace_wait(ending{pass_ends}) == status::ok && !pass);
+    container = std::make_unique<Container>();
+    pass.emplace(container->split());
+    while (container->emplace(ending{[] {}})) {}
+    const auto stops = [] { return false; };
+    CHECK(pass->emplace_wait_until(stops, ending{pass_ends}) == status::stopped && !pass);
+    CHECK(container->close() && container->try_emplace(ending{container_ends}) == status::closed && !container);
+}
+
+/// The pass is another thread's once the push has returned.
+template <class T> void constructors_leave() {
+    lockfree::ring_queue<T, lockfree::capacity<4>> ring{lockfree::pass_limit{1}};
+    auto pass = ring.split();
+    const std::function<void()> end = [&] {
+        pass = {};
+        CHECK(!ring.try_split());
+    };
+    CHECK(pass.emplace(ending{end}) && !pass && ring.pop());
+}
+
+/// Which function of an iterator, or of a range, ends the pass or the container.
+enum class function { begin, copy, compare, read, step };
+struct at_function {
+    function which;
+    const std::function<void()> &end;
+    void runs(function now) const {
+        if (now == which) end();
+    }
+};
+template <class Category> struct walk {
+    using iterator_category = Category;
+    using value_type = long;
+    using difference_type = std::ptrdiff_t;
+    using pointer = const long *;
+    using reference = long;
+    const at_function &ends;
+    long at;
+    walk(const at_function &by, long from) : ends(by), at(from) {}
+    walk(const walk &other) : ends(other.ends), at(other.at) { ends.runs(function::copy); }
+    walk &operator=(const walk &) = delete;
+    reference operator*() const { return ends.runs(function::read), at; }
+    walk &operator++() { return ends.runs(function::step), ++at, *this; }
+    bool operator==(const walk &other) const { return !(*this != other); }
+    bool operator!=(const walk &other) const { return ends.runs(function::compare), at != other.at; }
+};
+template <class Category> struct walked {
+    const at_function &ends;
+    walk<Category> begin() const { return ends.runs(function::begin), walk<Category>(ends, 1); }
+    walk<Category> end() const { return {ends, 4}; }
+};
+
+/// Of three values the stack has all, and else those are there that came before.
+template <class Container, class Category> void iterators_end() {
+    constexpr bool at_once = lockfree::detail::reads_twice<walk<Category>> &&
+                             std::is_base_of_v<lockfree::stack<long, lockfree::capacity<4>>, Container>;
+    for (const function which : {function::begin, function::copy, function::compare, function::read, function::step})
+        for (const int way : {0, 1, 2}) {
+            if (which == function::begin && way == 0) continue;
+            auto container = std::make_unique<Container>();
+            std::optional<typename Container::pass> pass(container->split()), other(container->split());
+            const std::function<void()> end = [&] { way == 2 ? container.reset() : pass.reset(); };
+            const at_function ends{which, end};
+            const auto [next, what] = way == 0   ? pass->try_push(walk<Category>(ends, 1), walk<Category>(ends, 4))
+                                      : way == 1 ? pass->try_push_range(walked<Category>{ends})
+                                                 : container->try_push_range(walked<Category>{ends});
+            const bool all = at_once || (which == function::copy && way == 0);  // (at the return)
+            const long put = all ? 3 : which == function::read || which == function::step ? 1 : 0;
+            CHECK(what == (all ? status::ok : status::stopped) && next.at == 1 + put && (way == 2 ? !container : !pass));
+            if (way != 2) CHECK(other->consume_all([](long) {}) == static_cast<std::size_t>(put));
+        }
+}
+
+/// The same of what a pop writes to.
+struct written {
+    const at_function &ends;
+    explicit written(const at_function &by) : ends(by) {}
+    written(const written &other) : ends(other.ends) { ends.runs(function::copy); }
+    written &operator*() { return ends.runs(function::read), *this; }
+    written &operator++() { return ends.runs(function::step), *this; }
+    written &operator=(long) { return *this; }
+};
+template <class Container> void outputs_end() {
+    for (const function which : {function::copy, function::read, function::step}) {
+        Container container;
+        std::optional<typename Container::pass> pass(container.split());
+        const std::function<void()> end = [&] { pass.reset(); };
+        const at_function ends{which, end};
+        CHECK(pass->push(1) && pass->push(2) && pass->push(3));
+        const std::size_t count = pass->pop(written(ends), 3);
+        CHECK(count == (which == function::copy ? 3 : 1) && !pass == (which != function::copy));
+    }
+}
+
 /// The pass goes back now, to the next thread; in a function once the call returns.
 template <class T> void leaves() {
     lockfree::ring_queue<T, lockfree::capacity<4>> ring{lockfree::pass_limit{1}};
@@ -203,6 +327,21 @@ int main() {
     containers_end<lockfree::queue<long, lockfree::capacity<4>>>();
     containers_end<lockfree::stack<counted, lockfree::capacity<4>>>();
     stops_end();
+    constructors_end<lockfree::queue<long, lockfree::capacity<4>>>();
+    constructors_end<lockfree::queue<word_made, lockfree::capacity<4>>>();
+    constructors_end<lockfree::queue<cell_made, lockfree::capacity<4>>>();
+    constructors_end<lockfree::stack<long, lockfree::capacity<4>>>();
+    constructors_end<lockfree::stack<word_made, lockfree::capacity<4>>>();
+    constructors_end<lockfree::stack<cell_made, lockfree::capacity<4>>>();
+    constructors_end<lockfree::ring_queue<word_made, lockfree::capacity<4>>>();
+    constructors_leave<word_made>();
+    constructors_leave<cell_made>();
+    iterators_end<lockfree::queue<long, lockfree::capacity<4>>, std::forward_iterator_tag>();
+    iterators_end<lockfree::ring_queue<long, lockfree::capacity<4>>, std::input_iterator_tag>();
+    iterators_end<lockfree::stack<long, lockfree::capacity<4>>, std::forward_iterator_tag>();
+    iterators_end<lockfree::stack<long, lockfree::capacity<4>>, std::input_iterator_tag>();
+    outputs_end<lockfree::queue<long, lockfree::capacity<4>>>();
+    outputs_end<lockfree::stack<long, lockfree::capacity<4>>>();
     leaves<int>();
     leaves<counted>();
     CHECK(counted::alive == 0);
