@@ -35,6 +35,12 @@ static_assert(throw_nothing<queue<throwing_move>, throwing_move>(false, false, f
 static_assert(noexcept(std::declval<queue<long> &>().try_emplace(1)));
 static_assert(!noexcept(std::declval<queue<std::string> &>().try_emplace("text")));
 static_assert(!noexcept(std::declval<queue<int> &>().push(1)));  // (a thread's first call)
+constexpr auto throws_nothing = [](int) noexcept {};
+constexpr auto may_throw = [](int) {};
+static_assert(noexcept(std::declval<queue<int> &>().try_consume_one(throws_nothing)));
+static_assert(noexcept(std::declval<queue<int>::pass &>().try_consume_all(throws_nothing)));
+static_assert(!noexcept(std::declval<queue<int> &>().try_consume_one(may_throw)));
+static_assert(!noexcept(std::declval<queue<int>::pass &>().try_consume_all(may_throw)));
 
 /// A value of 8 bytes that can be neither copied nor moved: it stays where it was made.
 struct immovable {

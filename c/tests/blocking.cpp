@@ -3,6 +3,7 @@
 #include "check.hpp"
 
 #include <chrono>
+#include <functional>
 #include <memory>
 #include <string>
 #include <sys/resource.h>
@@ -73,7 +74,7 @@ void stops() {
     CHECK(ring.shut() && ring.try_pop(out) == status::shut);
 }
 
-/// A clock that stands still until it is told the time, and runs from then on.
+/// A clock that stands still but for when it is told the time, and counts how often it is asked.
 struct set_clock {
     using duration = std::chrono::nanoseconds;
     using rep = duration::rep;
@@ -81,26 +82,20 @@ struct set_clock {
     using time_point = std::chrono::time_point<set_clock>;
     static constexpr bool is_steady = false;
     static inline std::atomic<rep> shows{0};
-    static time_point now() { return time_point(duration(shows.load())); }
+    static inline std::atomic<long> asked{0};
+    static time_point now() { return ++asked, time_point(duration(shows.load())); }
 };
 
-/// The wait ends by the clock of its deadline, and sleeps also while that stands still.
+/// The wait ends by the clock of its deadline, and sleeps also while that stands still. (Who spins asks
+/// it some thousand times in a millisecond.)
 void deadlines_of_a_clock_that_is_set() {
     lockfree::blocking<lockfree::bounded_queue<int>> queue(1);
     int out = 0;
-    long used = 0;
-    std::thread waits([&] {
-        rusage before{}, after{};
-        getrusage(RUSAGE_THREAD, &before);
-        CHECK(queue.pop_wait(out, set_clock::time_point(20ms)) == status::stopped);
-        getrusage(RUSAGE_THREAD, &after);
-        const auto since = [](timeval from, timeval to) { return (to.tv_sec - from.tv_sec) * 1000 + (to.tv_usec - from.tv_usec) / 1000; };
-        used = since(before.ru_utime, after.ru_utime) + since(before.ru_stime, after.ru_stime);
-    });
+    std::thread waits([&] { CHECK(queue.pop_wait(out, set_clock::time_point(20ms)) == status::stopped); });
     std::this_thread::sleep_for(400ms);
     set_clock::shows = std::chrono::nanoseconds(1h).count();
     waits.join();
-    CHECK(used < 60);  // milliseconds of a processor; a wait that spins needs most of the 400
+    CHECK(set_clock::asked < 200);
     CHECK(queue.pop_wait(out, std::chrono::steady_clock::time_point::min()) == status::stopped);
     CHECK(queue.pop_wait(out, set_clock::time_point::min()) == status::stopped);
 }
@@ -154,7 +149,6 @@ template <class Container> void many_at_a_time() {
     CHECK(container.try_emplace(9) == status::ok && container.try_consume_one([](int value) { CHECK(value == 9); }) == status::ok);
     CHECK(container.try_push(9) == status::ok && container.try_consume_all([](int) {}).count == 1);
     CHECK(container.try_pop(out.begin(), 2).what == status::empty);
-    container.leave();
 }
 
 /// Passes wake and sleep as their container; an empty one does neither.
@@ -178,6 +172,15 @@ void passes() {
     CHECK(!other && none.pop_wait(out) == status::no_pass && none.push_wait("text") == status::no_pass && !none.try_pop());
 }
 
+/// A thread of a pool gives its pass to the next one.
+void leaves() {
+    lockfree::blocking<lockfree::ring_queue<int, lockfree::capacity<2>>> numbers(lockfree::pass_limit{1});
+    CHECK(numbers.try_push(1) == status::ok && !numbers.try_split());
+    numbers.leave();
+    std::thread([&] { CHECK(numbers.try_pop() == 1); }).join();
+    CHECK(numbers.try_push(2) == status::ok);
+}
+
 /// A channel for one reply that ends once the reply is there, while the other thread may still be in its push.
 void replies() {
     using channel = lockfree::blocking<lockfree::queue<std::string, lockfree::capacity<1>>>;
@@ -193,8 +196,22 @@ void replies() {
     }
 }
 
-/// The function of a call ends the object that it was called of.
+/// A value that is its own word, and whose constructor runs a function.
+struct word_made {
+    int number;
+    explicit word_made(const std::function<void()> &run) : number((run(), 7)) {}
+};
+
+/// The function of a call, or the constructor of a value, ends the object that it was called of.
 void ends_in_a_call() {
+    using words = lockfree::blocking<lockfree::queue<word_made, lockfree::capacity<1>>>;
+    auto word = std::make_unique<words>();
+    auto of_words = std::make_unique<words::pass>(word->split());
+    const std::function<void()> pass_ends = [&] { of_words.reset(); }, container_ends = [&] { word.reset(); };
+    CHECK(of_words->try_emplace(pass_ends) == status::ok && !of_words && word->try_pop()->number == 7);
+    of_words = std::make_unique<words::pass>(word->split());
+    CHECK(word->try_emplace(container_ends) == status::ok && !word);
+    CHECK(of_words->emplace_wait_until(1h, pass_ends) == status::stopped && !of_words);
     auto stack = std::make_unique<lockfree::blocking<lockfree::bounded_stack<std::string>>>(4);
     CHECK(stack->try_push("one") == status::ok && stack->try_push("two") == status::ok);
     CHECK(stack->try_consume_all_atomic([&](std::string &) { stack.reset(); }).count == 2);
@@ -215,6 +232,7 @@ int main() {
     many_at_a_time<lockfree::bounded_queue<int>>();
     many_at_a_time<lockfree::bounded_stack<int>>();
     passes();
+    leaves();
     replies();
     ends_in_a_call();
     all_values_come<lockfree::bounded_queue<std::string>>();

@@ -8,7 +8,6 @@
 #include <functional>
 #include <iterator>
 #include <memory>
-#include <optional>
 #include <string>
 #include <thread>
 #include <utility>
@@ -18,9 +17,14 @@ namespace {
 
 using lockfree::status;
 
+/// A pass in memory of its own, where ASan sees who looks at it after its end.
+template <class Container> auto own_pass(Container &container) {
+    return std::make_unique<typename Container::pass>(container.split());
+}
+
 template <class Container, class F> void last_pass_ends(F &&call) {
     auto container = std::make_unique<Container>();
-    std::optional<typename Container::pass> pass(container->split());
+    auto pass = own_pass(*container);
     container.reset();
     CHECK(pass->push(typename Container::value_type(3)) && pass->push(typename Container::value_type(4)));
     call(pass);
@@ -90,7 +94,7 @@ void stops_as_messages() {
 template <class Stack> void moves() {
     using value = typename Stack::value_type;
     Stack stack;
-    std::optional<typename Stack::pass> pass(stack.split());
+    auto pass = own_pass(stack);
     typename Stack::pass moved;
     for (int i = 0; i < 3; ++i) CHECK(pass->push(value(i)));
     CHECK(pass->consume_all_atomic([&](value &) {
@@ -163,13 +167,13 @@ template <class Container> void containers_end() {
 
 void stops_end() {
     lockfree::queue<counted, lockfree::capacity<1>> queue;
-    std::optional<decltype(queue)::pass> pass(queue.split());
+    auto pass = own_pass(queue);
     counted out;
     CHECK(pass->pop_wait(out, [&] { return pass.reset(), false; }) == status::stopped && !pass);
-    pass.emplace(queue.split());
+    pass = own_pass(queue);
     CHECK(queue.push(counted(1)) && pass->push_wait(counted(2), [&] { return pass.reset(), false; }) == status::stopped && !pass);
     lockfree::queue<long, lockfree::capacity<1>> words;
-    std::optional<decltype(words)::pass> word_pass(words.split());
+    auto word_pass = own_pass(words);
     CHECK(words.push(1) && word_pass->push_wait(2, [&] { return word_pass.reset(), false; }) == status::stopped && !word_pass);
 }
 
@@ -194,16 +198,16 @@ long number_of(const cell_made &it) { return *it.number.number; }
 
 template <class Container> void constructors_end() {
     auto container = std::make_unique<Container>();
-    std::optional<typename Container::pass> pass(container->split());
+    auto pass = own_pass(*container);
     const std::function<void()> pass_ends = [&] { pass.reset(); }, container_ends = [&] { container.reset(); };
     CHECK(pass->try_emplace(ending{pass_ends}) == status::ok && !pass);
     const auto value = container->pop();
     CHECK(value && number_of(*value) == 7 && container->empty());
-    pass.emplace(container->split());
+    pass = own_pass(*container);
     CHECK(container->emplace(ending{container_ends}) && !container);
     CHECK(number_of(*pass->pop()) == 7 && pass->emplace_wait(ending{pass_ends}) == status::ok && !pass);
     container = std::make_unique<Container>();
-    pass.emplace(container->split());
+    pass = own_pass(*container);
     while (container->emplace(ending{[] {}})) {}
     const auto stops = [] { return false; };
     CHECK(pass->emplace_wait_until(stops, ending{pass_ends}) == status::stopped && !pass);
@@ -260,7 +264,7 @@ template <class Container, class Category> void iterators_end() {
         for (const int way : {0, 1, 2}) {
             if (which == function::begin && way == 0) continue;
             auto container = std::make_unique<Container>();
-            std::optional<typename Container::pass> pass(container->split()), other(container->split());
+            auto pass = own_pass(*container), other = own_pass(*container);
             const std::function<void()> end = [&] { way == 2 ? container.reset() : pass.reset(); };
             const at_function ends{which, end};
             const auto [next, what] = way == 0   ? pass->try_push(walk<Category>(ends, 1), walk<Category>(ends, 4))
@@ -285,7 +289,7 @@ struct written {
 template <class Container> void outputs_end() {
     for (const function which : {function::copy, function::read, function::step}) {
         Container container;
-        std::optional<typename Container::pass> pass(container.split());
+        auto pass = own_pass(container);
         const std::function<void()> end = [&] { pass.reset(); };
         const at_function ends{which, end};
         CHECK(pass->push(1) && pass->push(2) && pass->push(3));
