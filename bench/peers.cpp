@@ -8,7 +8,7 @@
 // moodycamel: moodycamel::ConcurrentQueue, where its header is there. WORK: nanoseconds of work before
 // each put and after each take. CAPACITY is given when it is compiled (-DCAPACITY=4096), and so are the bytes of a value:
 // the item, and room beside it (-DVALUE_BYTES=64). With -DOURS the stack and the queue are those of this repository,
-// as C++ calls them, and there is a ring, and no other.
+// as C++ calls them, and there is a ring, and no other; with -pass after a name the one thread calls by a pass of split().
 //
 // Two runs are made: the first gives nanoseconds per item, the second, with the clock read
 // before and after each call, the percentiles. A refused caller gives 50 spin hints and then yields.
@@ -74,6 +74,17 @@ using Stack = containers::stack<Value, containers::capacity<CAPACITY>>;
 using Queue = containers::queue<Value, containers::capacity<CAPACITY>>;
 #ifdef OURS
 using Ring = containers::ring_queue<Value, containers::capacity<CAPACITY>>;
+
+// A container that is called by one pass.
+template <class Container> class ByPass {
+public:
+    bool push(const Value& value) { return pass_.push(value); }
+    bool pop(Value& value) { return pass_.pop(value); }
+
+private:
+    Container container_;
+    typename Container::pass pass_ = container_.split();
+};
 #endif
 
 class MutexStack {
@@ -343,6 +354,11 @@ int main(int count, char** words) {
     if (kind == "queue") return measure<Queue>(load);
 #ifdef OURS
     if (kind == "ring") return measure<Ring>(load);
+    if (load.producers == 0) {
+        if (kind == "stack-pass") return measure<ByPass<Stack>>(load);
+        if (kind == "queue-pass") return measure<ByPass<Queue>>(load);
+        if (kind == "ring-pass") return measure<ByPass<Ring>>(load);
+    }
 #else
     if (kind == "mutex-stack") return measure<MutexStack>(load);
     if (kind == "mutex-queue") return measure<MutexQueue>(load);

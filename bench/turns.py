@@ -35,20 +35,31 @@ def measured(command):
     return [float(one.group(1)) for one in found]
 
 
-def measurement(programs, rounds):
-    """Runs each program once a round, in alternating order; returns the figures of each, a list a round."""
-    figures = {name: [] for name in programs}
-    for number in range(rounds):
-        for name in list(programs) if number % 2 == 0 else list(programs)[::-1]:
-            figures[name].append(measured(programs[name]))
-    return figures
+def one_round(programs, number):
+    """Runs each program once, every other round in the opposite order; returns the figures of each."""
+    names = list(programs) if number % 2 == 0 else list(programs)[::-1]
+    return {name: measured(programs[name]) for name in names}
 
 
-def median(done, name, place=0):
-    """The median of a figure over all rounds, by default of the time of an item."""
-    return statistics.median(figures[place] for one in done for figures in one[name])
+def median(rounds, name, place=0):
+    """The median of a figure over the rounds, by default of the time of an item."""
+    return statistics.median(one[name][place] for one in rounds)
 
 
-def ratios(done, name, base):
-    """Of each measurement the median of the ratios of an item's time round by round."""
-    return [statistics.median(a[0] / b[0] for a, b in zip(one[name], one[base])) for one in done]
+def ratios(rounds, name, base):
+    """The ratios of an item's time, round by round."""
+    return [one[name][0] / one[base][0] for one in rounds]
+
+
+def quartiles(numbers):
+    """The first and the third quartile; nothing of fewer than four numbers."""
+    if len(numbers) < 4:
+        return None, None
+    first, _, third = statistics.quantiles(numbers, n=4, method="inclusive")
+    return first, third
+
+
+def parts(rounds, count):
+    """The rounds in so many parts, one after another, that are equally long but for one round."""
+    ends = [len(rounds) * at // count for at in range(count + 1)]
+    return [rounds[begin:end] for begin, end in zip(ends, ends[1:]) if end > begin]

@@ -1,8 +1,10 @@
 """The figures that were measured: docs/figures/speed.tsv and calls.tsv, and whether they are of the code as it is.
 
-The first lines of each file, which begin with '#', say what was measured: the commit, a digest of the code, the machine and
-the rounds. Then comes the line with the names of the columns. '-' is a figure that was not measured. bench/compare --write
-writes both files. Nothing writes array_queue.tsv anew: it was measured from Rattle, by a program that this tree no longer has."""
+The first lines of each file, which begin with '#', say what was measured: the commit, a digest of the code, the machine, the
+compilers, the build that the pages show (`headline`) and the rounds. Then comes the line with the names of the columns. In
+speed.tsv `ratio` is the median of all rounds, `q1` and `q3` are their quartiles, and `low` and `high` the lowest and the highest
+median of a measurement. '-' is a figure that was not measured. bench/compare --write writes both files. Nothing writes
+array_queue.tsv anew: it was measured from Rattle, by a program that this tree no longer has."""
 
 import os
 
@@ -11,8 +13,8 @@ import measured_code
 HERE = os.path.dirname(os.path.realpath(__file__))
 SPEED, CALLS, ARRAY_QUEUE = f"{HERE}/speed.tsv", f"{HERE}/calls.tsv", f"{HERE}/array_queue.tsv"
 HEADS = {
-    SPEED: "container capacity threads bytes work ns boost_ns low high p50 p99 p999 boost_p999".split(),
-    CALLS: "container call bytes here boost".split(),
+    SPEED: "container build capacity threads bytes work ns boost_ns ratio q1 q3 low high p50 p99 p999 boost_p999".split(),
+    CALLS: "container build call bytes here boost".split(),
 }
 
 
@@ -25,8 +27,9 @@ def read(path):
     return about, [dict(zip(names, row)) for row in rows]
 
 
-def write(path, about, rows):
-    with open(path, "w", encoding="utf-8") as file:
+def write(path, about, rows, folder=None):
+    """Writes one of the files, or one of its name in another folder."""
+    with open(os.path.join(folder or HERE, os.path.basename(path)), "w", encoding="utf-8") as file:
         file.writelines(f"# {name} {said}\n" for name, said in about.items())
         file.writelines("\t".join(row) + "\n" for row in [HEADS[path], *([row[it] for it in HEADS[path]] for row in rows)])
 

@@ -10,6 +10,7 @@ import kept  # noqa: E402
 import measured_code  # noqa: E402
 
 NAMES = {"ring": "`ring_queue`", "queue": "`queue`", "stack": "`stack`"}
+PASSES = {f"{kind}-pass": f"{called}, by a pass of `split`" for kind, called in NAMES.items()}
 OTHERS = {"mutex-stack": "mutex and vector", "mutex-queue": "mutex and deque", "moodycamel": "moodycamel's `ConcurrentQueue`"}
 FROM_RATTLE = {"array-queue": "crossbeam's `ArrayQueue`"}
 # What the README says of each container beside its figures: its name, its order, and how many values it takes in its life, with
@@ -48,12 +49,25 @@ def plain(rows, **wanted):
     return [row for row in rows if all(row[name] == cell for name, cell in cells.items())]
 
 
+def headline(about, rows):
+    """The rows of the build that the pages show."""
+    return [row for row in rows if row["build"] == about["headline"]]
+
+
 def ratios(rows):
-    return [kept.number(row[end]) for row in rows for end in ("low", "high")]
+    return [kept.number(row["ratio"]) for row in rows]
 
 
 def ratio_of(rows):
     return between(ratios(rows), ratio) if rows else "-"
+
+
+def with_quartiles(rows):
+    """The ratio of the one row, and in brackets the quartiles of its rounds, where they are known."""
+    if not rows:
+        return "-"
+    row, = rows
+    return row["ratio"] if row["q1"] == "-" else f"{row['ratio']} ({row['q1']}, {row['q3']})"
 
 
 def slowest(rows, column="p999"):
@@ -76,7 +90,7 @@ def lasts(values, a_second=1_000_000):
 def lives(_):
     """The lives of containers by the rate at which values pass, the ring first. The last row is of the measured speed of one thread."""
     about, rows = kept.read(kept.SPEED)
-    alone = {row["container"]: kept.number(row["ns"]) for row in plain(rows, threads="one")}
+    alone = {row["container"]: kept.number(row["ns"]) for row in plain(headline(about, rows), threads="one")}
     yield "| Values a second | " + " | ".join(called for called, _, _ in LIVES) + " |\n|---|" + "---|" * len(LIVES) + "\n"
     for rate in RATES:
         yield f"| {rate:,} | " + " | ".join(lasts(values, rate) for _, _, values in LIVES) + " |\n"
@@ -103,7 +117,7 @@ def case_rows(rows, names):
             working = plain(rows, **case, work="480")
             cells = [called, f"{int(row['capacity']):,}", row["threads"]]
             for found in ([row], working):
-                cells += [ratio_of(found), *(tail_of(found, column) for column in ("p999", "boost_p999"))]
+                cells += [with_quartiles(found), *(tail_of(found, column) for column in ("p999", "boost_p999"))]
             yield "| " + " | ".join(cells) + " |\n"
 
 
@@ -112,12 +126,12 @@ def cases(rows):
 
 
 def is_between_threads(row):
-    return row["threads"] != "one" and row["low"] != "-"
+    return row["threads"] != "one" and row["ratio"] != "-"
 
 
 def mean(rows):
-    """The geometric mean of the ratios between threads, each the middle of its measurements."""
-    found = [(kept.number(row["low"]) + kept.number(row["high"])) / 2 for row in rows if is_between_threads(row)]
+    """The geometric mean of the ratios between threads."""
+    found = ratios(filter(is_between_threads, rows))
     return ratio(statistics.geometric_mean(found)) if found else "-"
 
 
@@ -160,12 +174,31 @@ def sizes(rows):
             yield f"| {called} | {int(row['capacity']):,} | {row['threads']} | " + " | ".join(of_sizes) + " |\n"
 
 
+def builds_of(rows):
+    return list(dict.fromkeys(row["build"] for row in rows))
+
+
+def builds(rows):
+    """The ratios by how both sides were compiled, where that was measured: one row for one case, and one for calls by a pass."""
+    found = builds_of(rows)
+    yield "| Container | Capacity | Threads | " + " | ".join(f"`{build}`" for build in found) + " |\n"
+    yield "|---|---|---|" + "---|" * len(found) + "\n"
+    for name, called in {**NAMES, **PASSES}.items() if len(found) > 1 else ():
+        for row in plain(rows, container=name, build=found[0]):
+            case = {"container": name, "capacity": row["capacity"], "threads": row["threads"]}
+            cells = [with_quartiles(plain(rows, **case, build=build)) for build in found]
+            yield f"| {called} | {int(row['capacity']):,} | {row['threads']} | " + " | ".join(cells) + " |\n"
+
+
 def calls(rows):
-    """What a call costs that changes nothing."""
-    yield "| Container | Call | Nanoseconds | Boost's |\n|---|---|---|---|\n"
+    """What a call costs that changes nothing, and in brackets Boost's, by how both were compiled."""
+    found = builds_of(rows)
+    yield "| Container | Call | " + " | ".join(f"ns (Boost's), `{build}`" for build in found) + " |\n|---|---|" + "---|" * len(found) + "\n"
     for row in rows:
-        if row["bytes"] == "8":
-            yield f"| {NAMES[row['container']]} | {row['call']} | {float(row['here']):g} | {float(row['boost']):g} |\n"
+        if row["build"] == found[0]:
+            same = [it for it in rows if (it["container"], it["call"], it["bytes"]) == (row["container"], row["call"], row["bytes"])]
+            cells = [f"{float(it['here']):g} ({float(it['boost']):g})" for it in same]
+            yield f"| {NAMES[row['container']]} | {row['call']} | " + " | ".join(cells) + " |\n"
 
 
 def instructions(_):
@@ -179,13 +212,14 @@ def instructions(_):
 
 
 # The tables of figures.
-OF_SPEED = {"cases": cases, "sizes": sizes, "means": means, "means_by_capacity": means_by_capacity, "others": others}
+OF_SPEED = {"cases": cases, "builds": builds, "sizes": sizes, "means": means, "means_by_capacity": means_by_capacity, "others": others}
 OF_CALLS = {"calls": calls}
+OF_ALL_BUILDS = (builds, calls)
 
 
 def table(make, about, rows):
     """A table, and under it the commit that was measured; without rows a sentence."""
-    made = "".join(make(rows))
+    made = "".join(make(rows if make in OF_ALL_BUILDS else headline(about, rows)))
     has_rows = made.count("\n") > 2
     yield f"{made}\nMeasured {kept.at_commit(about)}.\n" if has_rows else "Not measured yet.\n"
 
@@ -204,9 +238,20 @@ def of(about, speed, calls_made):
             yield f"{name}:\n\n" + "".join(table(make, about, rows))
 
 
+def spread(rows):
+    """How far apart the quartiles of the rounds are, and the medians of the measurements, in percent of the ratio."""
+    for low, high, called in (("q1", "q3", "quartiles of the rounds"), ("low", "high", "medians of the measurements")):
+        parts = sorted(100 * (kept.number(row[high]) - kept.number(row[low])) / kept.number(row["ratio"]) for row in rows)
+        middle, most = statistics.median(parts), parts[len(parts) * 9 // 10]
+        yield f"The {called} of a ratio lie {middle:.0f} % apart in the middle row, and {most:.0f} % in the row that one in ten passes."
+
+
 def machine(_):
-    about, _ = kept.read(kept.SPEED)
-    yield f"The figures are of {about['machine']}, and {about['rounds']}.\n"
+    about, rows = kept.read(kept.SPEED)
+    yield f"The figures are {about['rounds']}, of {about['machine']} ({about['compilers']}). "
+    yield f"Boost's containers and those here were compiled with `{about['headline']}`, unless a table names another build.\n"
+    if all(row["q1"] != "-" for row in rows):
+        yield "".join(f"{sentence}\n" for sentence in spread(rows))
 
 
 def kept_table(make, path):
@@ -217,7 +262,7 @@ TABLES = {
     "machine": machine,
     "instructions": instructions,
     "lives": lives,
-    "containers": lambda _: containers(kept.read(kept.SPEED)[1]),
+    "containers": lambda _: containers(headline(*kept.read(kept.SPEED))),
     "array_queue": array_queue,
     **{name: kept_table(make, kept.SPEED) for name, make in OF_SPEED.items()},
     **{name: kept_table(make, kept.CALLS) for name, make in OF_CALLS.items()},
