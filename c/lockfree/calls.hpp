@@ -49,6 +49,15 @@ template <class T, class F> inline constexpr bool uses_without_throwing =
 
 struct waits_of;
 
+/// What a call by a seat returns: a status, or an answer with a word in it.
+template <class F> using result_of_call = std::invoke_result_t<F &, core &, seat &>;
+/// That of a call for which there is no seat: NO_MEMORY, NO_PASS. Out of line, so that it comes in
+/// the registers in which the library returns.
+template <class Result> [[gnu::cold, gnu::noinline]] Result not_made(std::uint32_t code) noexcept {
+    if constexpr (std::is_same_v<Result, status>) return status_of(code);
+    else return {0, code};
+}
+
 /// The calls that all containers and their passes have, beside those of gauges.hpp and bulk.hpp.
 /// Any number of threads may call a container at a time, and one thread a pass. A thread's first
 /// call of a container takes a lock and memory. The others take neither, but for what
@@ -63,12 +72,12 @@ struct waits_of;
 template <class Me, class T, kind K> class calls {
 public:
     /// Pushes a copy. False if it is full, closed or spent.
-    bool push(const T &value) { return said(try_push(value)); }
+    [[gnu::always_inline]] bool push(const T &value) { return said(try_push(value)); }
     /// Pushes by move, always. False as above; the value is then moved back, by its move
     /// assignment. If it has none, it is made anew in its place; but not if it is a part of an
     /// object of a derived class, which then is as a move leaves it. A value that throws while it
     /// is moved back is lost; if it is made anew, that ends the program.
-    bool push(T &&value) { return said(try_push(std::move(value))); }
+    [[gnu::always_inline]] bool push(T &&value) { return said(try_push(std::move(value))); }
     template <class D, class = std::enable_if_t<is_unreturnable<T, D>>>
     bool push(D &&value) = delete;
     /// The same as push: each container here is bounded.
@@ -85,7 +94,8 @@ public:
 
     /// Moves the next value into `to`, by assignment, or by making a U of it. False if it is empty,
     /// shut or spent. The value is lost if its move throws.
-    template <class U, class = std::enable_if_t<goes_into<T, U>>> bool pop(U &to) {
+    template <class U, class = std::enable_if_t<goes_into<T, U>>>
+    [[gnu::always_inline]] bool pop(U &to) {
         return said(try_pop(to));
     }
     [[nodiscard]] std::optional<T> pop(uses_optional_t) {
@@ -97,10 +107,11 @@ public:
 
     /// The same calls, which return why not: full, closed, spent; empty, closed, shut, spent;
     /// no_memory, no_pass. They are noexcept if the functions of T (and of `to`) that they call are.
-    status try_push(const T &value) noexcept(std::is_nothrow_copy_constructible_v<T>) {
+    [[gnu::always_inline]] status
+    try_push(const T &value) noexcept(std::is_nothrow_copy_constructible_v<T>) {
         return make(tries_once, value);
     }
-    status try_push(T &&value) noexcept(moves_without_throwing<T>) {
+    [[gnu::always_inline]] status try_push(T &&value) noexcept(moves_without_throwing<T>) {
         return move(tries_once, value);
     }
     template <class D, class = std::enable_if_t<is_unreturnable<T, D>>>
@@ -111,7 +122,7 @@ public:
         return put(tries_once, std::forward<Args>(args)...);
     }
     template <class U, class = std::enable_if_t<goes_into<T, U>>>
-    status try_pop(U &to) noexcept(goes_into_without_throwing<T, U>) {
+    [[gnu::always_inline]] status try_pop(U &to) noexcept(goes_into_without_throwing<T, U>) {
         return take([&](T &value) { detail::assign(value, to); });
     }
     /// Nothing for any of these reasons.
@@ -206,22 +217,67 @@ protected:
 
 private:
     friend struct waits_of;
-    static bool said(status what) {
+    [[gnu::always_inline]] static bool said(status what) {
         if (__builtin_expect(what == status::ok, 1)) return true;
         throw_if_not_made(what);
         return false;
     }
     Me &me() noexcept { return static_cast<Me &>(*this); }
 
-    /// A value that is its own word needs no cell, so its push is one call of the library. The word
-    /// is made before the seat is looked for, so that it stays in a register. Where a function of a
-    /// user makes it, the seat is there before: that function may destroy this object.
+    /// A value that is its own word needs no cell, so its push and its pop are one call of the
+    /// library each, which runs no function of a user. (Where such a function makes the word, the
+    /// seat is there before: that function may destroy this object.) A call that does not end with
+    /// that goes on out of line, where it looks for its seat again: so one that does has to keep
+    /// neither the seat nor the core. The word goes in and out by value, so that it stays in a
+    /// register.
     template <class Again> [[gnu::always_inline]] status put_one(Again &again, std::uint64_t word) {
-        return heard(again, me().with([&again, word](core &of, seat &by) {
-            return detail::put_word<T, K>(of, by, word, again);
-        }));
+        if constexpr (waits<Again>) {
+            return heard(again, me().with([&again, word](core &of, seat &by) {
+                return detail::put_word<T, K>(of, by, word, again);
+            }));
+        } else {
+            return me().with([this, word](core &of, seat &by) {
+                gives(&of);
+                const lockfree_answer answer =
+                    defined((lockfree_put)(&by.pass, word, UINT64_MAX));
+                if (__builtin_expect(answer.code == LOCKFREE_OK, 1)) {
+                    by.template tally<K>(1);
+                    return status::ok;
+                }
+                return is_plain(answer.code) ? static_cast<status>(answer.code)
+                                             : put_on(word, answer.code);
+            });
+        }
     }
-    template <class Again, class... Args> status make(Again &again, Args &&...args) {
+    [[gnu::cold, gnu::noinline]] status put_on(std::uint64_t word, std::uint32_t code) noexcept {
+        return me().with([word, code](core &of, seat &by) {
+            return detail::put_begun<T, K>(of, by, word, code, tries_once);
+        });
+    }
+    /// The word, or the status that is the code of the answer.
+    [[gnu::always_inline]] lockfree_answer take_one() noexcept {
+        return me().with([this](core &of, seat &by) {
+            const lockfree_answer answer = defined((lockfree_take)(&by.pass, UINT64_MAX));
+            if (__builtin_expect(answer.code == LOCKFREE_OK, 1)) {
+                gets(&of);
+                by.template tally<K>(-1);
+                return answer;
+            }
+            return is_plain(answer.code) ? answer : take_on(answer);
+        });
+    }
+    [[gnu::cold, gnu::noinline]] lockfree_answer take_on(lockfree_answer begun) noexcept {
+        return me().with([begun](core &of, seat &by) {
+            const lockfree_answer answer = detail::whole(by.pass, begun);
+            if (answer.code != LOCKFREE_OK)
+                return lockfree_answer{0, static_cast<std::uint32_t>(refused(of, answer.code))};
+            gets(&of);
+            by.template tally<K>(-1);
+            return answer;
+        });
+    }
+    template <class Again, class... Args>
+    [[gnu::always_inline]] status make(Again &again, Args &&...args) {
         if constexpr (is_plain_word<T, Args...>) {
             const T value(std::forward<Args>(args)...);
             return put_one(again, detail::word_of_value(value));
@@ -231,7 +287,7 @@ private:
             }));
         }
     }
-    template <class Again> status move(Again &again, T &value) {
+    template <class Again> [[gnu::always_inline]] status move(Again &again, T &value) {
         if constexpr (goes_by_value<T>) {
             return put_one(again, detail::word_of_value(value));
         } else {
@@ -248,8 +304,21 @@ private:
     template <class Again> static status heard(Again &, status what) noexcept {
         return waits<Again> && what == status::full ? status::stopped : what;
     }
-    template <class F> status take(F &&use) {
-        return me().with([&](core &of, seat &by) { return detail::take_value<T, K>(of, by, use); });
+    template <class F> [[gnu::always_inline]] status take(F &&use) {
+        if constexpr (goes_by_value<T>) {
+            const lockfree_answer answer = take_one();
+            if (answer.code != LOCKFREE_OK) return static_cast<status>(answer.code);
+            detail::use_own_word<T>(answer.value, use);
+            return status::ok;
+        } else {
+            return take_from_cell(use);
+        }
+    }
+    template <class F> status take_from_cell(F &use) {
+        return me().with([&](core &of, seat &by) {
+            const in_use<T> user(of, by);
+            return detail::take_in_use<T, K>(of, by, use);
+        });
     }
     status pop_into(std::optional<T> &to) {
         return take([&](T &value) { to.emplace(std::move(value)); });

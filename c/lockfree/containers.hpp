@@ -80,8 +80,9 @@ private:
 
     core *shared() const noexcept { return of; }
     /// Once the call is made nothing here is looked at: it may have ended or moved this pass.
-    template <class F> [[gnu::always_inline]] status with(F &&call) {
-        return __builtin_expect(by != nullptr, 1) ? call(*of, *by) : status::no_pass;
+    template <class F> [[gnu::always_inline]] result_of_call<F> with(F &&call) {
+        if (__builtin_expect(by != nullptr, 1)) return call(*of, *by);
+        return not_made<result_of_call<F>>(LOCKFREE_NO_PASS);
     }
 };
 
@@ -265,14 +266,18 @@ private:
     container &asked() const noexcept { return const_cast<container &>(*this); }
 
     /// By the seat that the thread has at hand, mostly.
-    template <class F> [[gnu::always_inline]] status with(F call) {
-        const slot *const known = table_of_thread.find(of, home);
-        if (__builtin_expect(known && known->by, 1)) return call(*of, *known->by);
-        return with_caller(call);
+    template <class F> [[gnu::always_inline]] result_of_call<F> with(F call) {
+        const slot *known = &table_of_thread.at(home);
+        if (__builtin_expect(known->of != of, 0)) {
+            known = slot_elsewhere(of, home);
+            if (!known) return with_caller(call);
+        }
+        return call(*of, *known->by);
     }
-    template <class F> [[gnu::cold, gnu::noinline]] status with_caller(F call) {
+    template <class F> [[gnu::cold, gnu::noinline]] result_of_call<F> with_caller(F call) {
         const caller me(*of);
-        return me.code == LOCKFREE_OK ? call(*of, *me.by) : status_of(me.code);
+        if (me.code == LOCKFREE_OK) return call(*of, *me.by);
+        return not_made<result_of_call<F>>(me.code);
     }
 };
 

@@ -13,42 +13,57 @@ namespace lockfree {
 inline namespace LOCKFREE_NAMES {
 namespace detail {
 
-/// A thread's seat of a container. Null if it has none yet.
+/// A container, and the seat that a thread has of it. Both are null in an empty slot, and neither
+/// is in another, so that a call that finds its container need not look whether there is a seat.
 struct slot {
     core *of;
     seat *by;
 };
 
-/// The seats of a thread: a table of 2^n slots, at most half of them in use. A container's slot is
-/// the first one from `home_of` on that is its own, with no empty one before. A thread keeps the
-/// core of each container that is in it, so an address names one container, also among those that
-/// other shared objects have made.
+/// The seats of a thread: a table of 2^n slots, at most a quarter of them in use, so that most
+/// containers are at home. A container's slot is the first one from `home_of` on that is its own,
+/// with no empty one before. A place is a distance in bytes from the first slot, since a call then
+/// finds a slot with no shift. A thread keeps the core of each container that is in it, so an
+/// address names one container, also among those that other shared objects have made.
 struct slot_table {
-    slot *slots;
-    std::size_t mask;
+    static constexpr std::size_t step = sizeof(slot);
 
+    slot *slots;
+    std::size_t mask;  // of places
+
+    slot &at(std::size_t place) const noexcept {
+        return *reinterpret_cast<slot *>(reinterpret_cast<unsigned char *>(slots) +
+                                         (place & mask));
+    }
     slot *find(const core *of, std::size_t home) const noexcept {
-        for (std::size_t at = home;; ++at) {
-            slot &known = slots[at & mask];
-            if (__builtin_expect(known.of == of, 1)) return &known;
+        for (std::size_t place = home;; place += step) {
+            slot &known = at(place);
+            if (known.of == of) return &known;
             if (!known.of) return nullptr;
         }
     }
     slot &first_empty(std::size_t home) const noexcept {
-        std::size_t at = home;
-        while (slots[at & mask].of) ++at;
-        return slots[at & mask];
+        std::size_t place = home;
+        while (at(place).of) place += step;
+        return at(place);
     }
+    std::size_t size() const noexcept { return mask / step + 1; }
 };
 
 /// The top of a product, since containers often lie at equal distances.
 inline std::size_t home_of(const core *of) noexcept {
-    return (word_of(of) * 0x9E3779B97F4A7C15) >> 32;
+    return ((word_of(of) * 0x9E3779B97F4A7C15) >> 32) * slot_table::step;
 }
 
 /// That of a thread that has called nothing. Nobody writes it.
 inline slot no_slot = {nullptr, nullptr};
 inline thread_local slot_table table_of_thread = {&no_slot, 0};
+
+/// The slot of a container that is not at home, or null. Out of line, so that calls of one that is
+/// do not carry it.
+[[gnu::noinline]] inline const slot *slot_elsewhere(const core *of, std::size_t home) noexcept {
+    return table_of_thread.find(of, home);
+}
 
 /// Whether the thread has called yet, and whether its seats have gone back already. This and the
 /// table need no destructor, so they outlive the seats: what a thread still calls then, as from
@@ -97,25 +112,28 @@ public:
     void give_all_back() noexcept {
         state_of_thread = thread_state::ends;
         const slot_table last = std::exchange(table_of_thread, {&no_slot, 0});
-        for (std::size_t at = 0; at <= last.mask; ++at)
+        for (std::size_t at = 0; at < last.size(); ++at)
             if (last.slots[at].of) leave(last.slots[at]);
         if (last.slots != &no_slot) delete[] last.slots;
         count = 0;
     }
 
-    /// The thread's slot of a container, without a seat if it is new. Null if there is no memory.
-    /// It stays until the thread calls another container for the first time.
-    slot *slot_of(core &of) noexcept {
+    /// The thread's seat of a container, which it takes if it has none. OK, NO_MEMORY, NO_PASS.
+    std::uint32_t seat_of(core &of, seat *&by) noexcept {
         slot_table &table = table_of_thread;
-        if (slot *const known = table.find(&of, home_of(&of))) return known;
+        if (const slot *const known = table.find(&of, home_of(&of))) {
+            by = known->by;
+            return LOCKFREE_OK;
+        }
         const std::size_t ended = cores_ended.load(std::memory_order_relaxed);
         if (ended - swept_at >= 8 + count / 2) sweep(ended);
-        if (2 * (count + 1) > table.mask && !resize(2 * table.mask + 2)) return nullptr;
+        if (4 * (count + 1) > table.size() && !resize(2 * table.size())) return LOCKFREE_NO_MEMORY;
+        const std::uint32_t code = of.take_seat(by);
+        if (code != LOCKFREE_OK) return code;
         of.add_holder();
         ++count;
-        slot &made = table.first_empty(home_of(&of));
-        made = {&of, nullptr};
-        return &made;
+        table.first_empty(home_of(&of)) = {&of, by};
+        return LOCKFREE_OK;
     }
 
     /// Empties the slot of a container, and returns its seat. Null if the thread has none.
@@ -134,17 +152,17 @@ private:
         return key;
     }
 
-    static constexpr std::size_t fewest = 8;
+    static constexpr std::size_t fewest = 16;
     std::size_t count = 0;
     std::size_t swept_at = 0;
 
     /// Whether there was memory for a table of at least so many slots.
     static bool resize(std::size_t slots) noexcept {
         if (slots < fewest) slots = fewest;
-        slot_table made = {new (std::nothrow) slot[slots](), slots - 1};
+        slot_table made = {new (std::nothrow) slot[slots](), (slots - 1) * slot_table::step};
         if (!made.slots) return false;
         const slot_table last = std::exchange(table_of_thread, made);
-        for (std::size_t at = 0; at <= last.mask; ++at)
+        for (std::size_t at = 0; at < last.size(); ++at)
             if (last.slots[at].of) made.first_empty(home_of(last.slots[at].of)) = last.slots[at];
         if (last.slots != &no_slot) delete[] last.slots;
         return true;
@@ -160,16 +178,16 @@ private:
         leave(at);
         --count;
         const slot_table &table = table_of_thread;
-        std::size_t hole = static_cast<std::size_t>(&at - table.slots);
-        for (std::size_t next = hole + 1;; ++next) {
-            slot &moved = table.slots[next & table.mask];
+        std::size_t hole = static_cast<std::size_t>(&at - table.slots) * slot_table::step;
+        for (std::size_t next = hole + slot_table::step;; next += slot_table::step) {
+            slot &moved = table.at(next);
             if (!moved.of) break;
             const std::size_t from_home = (next - home_of(moved.of)) & table.mask;
             if (from_home < ((next - hole) & table.mask)) continue;
-            table.slots[hole & table.mask] = moved;
+            table.at(hole) = moved;
             hole = next;
         }
-        table.slots[hole & table.mask] = {nullptr, nullptr};
+        table.at(hole) = {nullptr, nullptr};
     }
 
     /// Forgets the containers that have ended. It is due if as many have ended, of all threads, as
@@ -178,14 +196,14 @@ private:
     void sweep(std::size_t ended) noexcept {
         swept_at = ended;
         const slot_table &table = table_of_thread;
-        for (std::size_t at = 0; at <= table.mask;) {
+        for (std::size_t at = 0; at < table.size();) {
             slot &known = table.slots[at];
             if (known.of && known.of->ended()) drop(known);
             else ++at;
         }
-        std::size_t slots = table.mask + 1;
-        while (slots > fewest && 8 * count < slots) slots /= 2;
-        if (slots <= table.mask) resize(slots);  // (if there is no memory, it stays as it is)
+        std::size_t slots = table.size();
+        while (slots > fewest && 16 * count < slots) slots /= 2;
+        if (slots < table.size()) resize(slots);  // (if there is no memory, it stays as it is)
     }
 };
 
@@ -209,10 +227,14 @@ inline thread_local late_call *late_calls = nullptr;
 class caller {
 public:
     explicit caller(core &from) noexcept : of(from), late{&from, nullptr, late_calls} {
-        if (state_of_thread == thread_state::ends && !place()) late_calls = &late;
-        seat **const at = place();
-        if (at) code = *at ? std::uint32_t{LOCKFREE_OK} : of.take_seat(*at);
-        if (code == LOCKFREE_OK) by = *at;
+        if (state_of_thread != thread_state::ends) {
+            code = mine().seat_of(of, by);
+            return;
+        }
+        late_call *at = borrowed();
+        if (!at) at = late_calls = &late;
+        code = at->by ? std::uint32_t{LOCKFREE_OK} : of.take_seat(at->by);
+        if (code == LOCKFREE_OK) by = at->by;
     }
     caller(const caller &) = delete;
     caller &operator=(const caller &) = delete;
@@ -226,21 +248,16 @@ private:
     core &of;
     late_call late;
 
-    /// Where the thread's seat is. Null if there is no memory, or a late call is the first one of
-    /// the container.
-    seat **place() noexcept {
-        if (state_of_thread != thread_state::ends) {
-            slot *const at = mine().slot_of(of);
-            return at ? &at->by : nullptr;
-        }
+    /// The late call that has borrowed a seat of this container, or null.
+    late_call *borrowed() const noexcept {
         for (late_call *at = late_calls; at; at = at->outer)
-            if (at->of == &of) return &at->by;
+            if (at->of == &of) return at;
         return nullptr;
     }
 
 public:
     /// OK, NO_MEMORY, NO_PASS.
-    std::uint32_t code = LOCKFREE_NO_MEMORY;
+    std::uint32_t code;
     seat *by = nullptr;
 };
 

@@ -138,14 +138,19 @@ template <class T> std::uint64_t word_of_value(const T &value) noexcept {
     return defined(word);
 }
 
+/// Hands the value that is this word to `use`.
+template <class T, class F> void use_own_word(std::uint64_t word, F &&use) {
+    alignas(T) unsigned char bytes[sizeof(T)];
+    std::memcpy(bytes, &word, sizeof bytes);
+    use(*std::launder(reinterpret_cast<T *>(bytes)));
+}
+
 /// Hands the value that a word stands for to `use`, and destroys it, also if `use` throws. Callers
 /// say that the seat is in use, unless the value is its own word: then no seat is needed after the
 /// word is here.
 template <class T, class F> void use_word(core &of, seat &by, std::uint64_t word, F &&use) {
     if constexpr (goes_by_value<T>) {
-        alignas(T) unsigned char bytes[sizeof(T)];
-        std::memcpy(bytes, &word, sizeof bytes);
-        use(*std::launder(reinterpret_cast<T *>(bytes)));
+        detail::use_own_word<T>(word, use);
     } else {
         const held_cell cell(of, by, word);
         T &value = *std::launder(static_cast<T *>(cell.at()));
@@ -164,8 +169,11 @@ template <class T, class F> void use_word(core &of, seat &by, std::uint64_t word
     if (code == LOCKFREE_SPENT) of.spent.store(true, std::memory_order_release);
     return status_of(code);
 }
+/// Whether a code is that of a call that is done, or refused for now: then it is its status, and
+/// there is nothing to keep in mind.
+constexpr bool is_plain(std::uint32_t code) noexcept { return code <= LOCKFREE_EMPTY; }
 inline status refused(core &of, std::uint32_t code) noexcept {
-    return code <= LOCKFREE_EMPTY ? static_cast<status>(code) : detail::noted(of, code);
+    return is_plain(code) ? static_cast<status>(code) : detail::noted(of, code);
 }
 
 /// A put that succeeded. It counts here, while the seat is surely this call's: if a function of a
@@ -190,14 +198,21 @@ put_again(core &of, seat &by, std::uint64_t word, std::uint32_t code, Again &aga
     }
     return refused(of, code);
 }
+/// Goes on with a put that has been answered with `code`: to its end, and again while the container
+/// is full, as long as `again()` returns true.
+template <class T, kind K, class Again>
+status put_begun(core &of, seat &by, std::uint64_t word, std::uint32_t code, Again &again) {
+    code = detail::whole(by.pass, {0, code}).code;
+    if (__builtin_expect(code == LOCKFREE_OK, 1)) return put_done<K>(by);
+    if constexpr (waits<Again>) return detail::put_again<T, K>(of, by, word, code, again);
+    else return refused(of, code);
+}
 /// Puts a word; while the container is full, it tries again as long as `again()` returns true.
 template <class T, kind K, class Again> [[gnu::always_inline]] inline status
 put_word(core &of, seat &by, std::uint64_t word, Again &again) {
     gives(&of);
-    const std::uint32_t code = put(by.pass, word).code;
-    if (__builtin_expect(code == LOCKFREE_OK, 1)) return put_done<K>(by);
-    if constexpr (waits<Again>) return detail::put_again<T, K>(of, by, word, code, again);
-    else return refused(of, code);
+    const lockfree_answer answer = defined((lockfree_put)(&by.pass, word, UINT64_MAX));
+    return detail::put_begun<T, K>(of, by, word, answer.code, again);
 }
 
 /// Whether a value is its own word, and no function of a user runs when it is made of these.
@@ -277,17 +292,6 @@ template <class T, kind K, class F>
     by.tally<K>(-1);
     detail::use_word<T>(of, by, answer.value, use);
     return status::ok;
-}
-
-/// Takes a value, and hands it to `use`.
-template <class T, kind K, class F>
-[[gnu::always_inline]] inline status take_value(core &of, seat &by, F &&use) {
-    if constexpr (goes_by_value<T>) {
-        return detail::take_in_use<T, K>(of, by, use);
-    } else {
-        const in_use<T> user(of, by);
-        return detail::take_in_use<T, K>(of, by, use);
-    }
 }
 
 /// Takes up to `most` values, one after another, and hands them to `use`. `stopped` if `use` or a

@@ -22,7 +22,9 @@ template <class... All> void move_back(All &&...) { std::abort(); }
 template <class... All> void use_word(All &&...) { std::abort(); }
 template <class... All> void put_made(All &&...) { std::abort(); }
 template <class... All> void put_word(All &&...) { std::abort(); }
-template <class... All> void take_value(All &&...) { std::abort(); }
+template <class... All> void use_own_word(All &&...) { std::abort(); }
+template <class... All> void put_begun(All &&...) { std::abort(); }
+template <class... All> void is_plain(All &&...) { std::abort(); }
 template <class... All> void asks(All &&...) { std::abort(); }
 template <class... All> void waits_for(All &&...) { std::abort(); }
 template <class... All> void word_of_value(All &&...) { std::abort(); }
