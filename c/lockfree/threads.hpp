@@ -9,6 +9,14 @@
 #include <pthread.h>
 #include <utility>
 
+// How code in a shared object finds the thread's table. A user may define it for all files of the
+// object (docs/cpp.md, "Build and link").
+#ifdef LOCKFREE_TLS_INITIAL_EXEC
+#define LOCKFREE_TLS [[gnu::tls_model("initial-exec")]]
+#else
+#define LOCKFREE_TLS
+#endif
+
 namespace lockfree {
 inline namespace LOCKFREE_NAMES {
 namespace detail {
@@ -57,7 +65,7 @@ inline std::size_t home_of(const core *of) noexcept {
 
 /// That of a thread that has called nothing. Nobody writes it.
 inline slot no_slot = {nullptr, nullptr};
-inline thread_local slot_table table_of_thread = {&no_slot, 0};
+LOCKFREE_TLS inline thread_local slot_table table_of_thread = {&no_slot, 0};
 
 /// The slot of a container that is not at home, or null. Out of line, so that calls of one that is
 /// do not carry it.
