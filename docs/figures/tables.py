@@ -243,7 +243,7 @@ def spread(rows):
     for low, high, called in (("q1", "q3", "quartiles of the rounds"), ("low", "high", "medians of the measurements")):
         parts = sorted(100 * (kept.number(row[high]) - kept.number(row[low])) / kept.number(row["ratio"]) for row in rows)
         middle, most = statistics.median(parts), parts[len(parts) * 9 // 10]
-        yield f"The {called} of a ratio lie {middle:.0f} % apart in the middle row, and {most:.0f} % in the row that one in ten passes."
+        yield f"The {called} of a ratio lie at most {middle:.0f} % of it apart in half of the rows, and at most {most:.0f} % in nine of ten."
 
 
 def machine(_):
