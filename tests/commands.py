@@ -1,12 +1,16 @@
 """Runs commands for tests, and says which failed."""
+import ctypes
 import os
 import signal
 import subprocess
+import time
 
 TOP = os.path.dirname(os.path.dirname(os.path.abspath(__file__)))
 C = f"{TOP}/c"
-ARCHIVE = f"{C}/out/liblockfree.a"
+ARCHIVE = os.path.abspath(os.environ.get("LOCKFREE_ARCHIVE", f"{C}/out/liblockfree.a"))
 LIMIT = 300  # seconds that one command may take
+PATIENCE = 10  # seconds that a command has to end in, when it is told to
+ADOPT_ORPHANS = 36  # PR_SET_CHILD_SUBREAPER of prctl(2)
 
 
 class Failed(Exception):
@@ -38,3 +42,41 @@ def want(holds, what):
 def read(path):
     with open(os.path.join(TOP, path), encoding="utf-8") as file:
         return file.read()
+
+
+def adopt_orphans():
+    """From now on a process that this one began, in however many steps, becomes its child when its own parent ends."""
+    ctypes.CDLL(None).prctl(ADOPT_ORPHANS, 1, 0, 0, 0)
+
+
+def living_below(top):
+    """The processes that this one began, in however many steps, and that have not ended."""
+    children = {}
+    for name in filter(str.isdigit, os.listdir("/proc")):
+        try:
+            with open(f"/proc/{name}/stat", encoding="utf-8", errors="replace") as file:
+                state, parent = file.read().rpartition(")")[2].split()[:2]
+        except OSError:  # (it has ended meanwhile)
+            continue
+        children.setdefault(int(parent), []).append((int(name), state not in "ZX"))
+    found, ahead = set(), [top]
+    while ahead:
+        for pid, lives in children.get(ahead.pop(), ()):
+            ahead.append(pid)
+            if lives:
+                found.add(pid)
+    return found
+
+
+def end_all_begun():
+    """Ends the processes that this one began: each is told to once, and killed if it has not ended in time."""
+    told, begun = set(), time.monotonic()
+    while left := living_below(os.getpid()):
+        late = time.monotonic() > begun + PATIENCE
+        for pid in left if late else left - told:
+            try:
+                os.kill(pid, signal.SIGKILL if late else signal.SIGTERM)
+            except ProcessLookupError:
+                pass
+        told |= left
+        time.sleep(0.05)
