@@ -20,7 +20,8 @@ import tempfile
 PAGES = ('README.md', 'docs/cpp.md', 'docs/c-api.md', 'docs/cli.md', 'docs/lifetime.md')
 # Each block of these says how it is run; of the others those that say it are.
 STRICT = ('README.md', 'docs/cpp.md', 'docs/c-api.md', 'docs/lifetime.md')
-ARCHIVE = os.environ.get('LOCKFREE_ARCHIVE', 'c/out/liblockfree.a')
+BUILT = 'c/out/liblockfree.a'
+ARCHIVE = os.environ.get('LOCKFREE_ARCHIVE', BUILT)
 SHARED = 'c/out/liblockfree.so'
 PROGRAM = 'crates/lockfree_tool/out/lockfree_tool'
 BLOCK = re.compile(r'(?:^<!-- ([a-z]+)(?:: ([^\n]*?))? -->\n)?^```(\w*)\n(.*?)\n?^```', re.S | re.M)
@@ -61,9 +62,9 @@ def commands(code, room):
     """The commands of a block that are run here, and what they need."""
     lines = [line for line in code.splitlines() if line.strip() not in ELSEWHERE]
     script = ('\n'.join(lines) + '\n').replace('/tmp/', f'{room}/')
-    needs = [it for it, word in ((ARCHIVE, 'liblockfree.a'), (SHARED, 'liblockfree.so'), (ARCHIVE, 'cmake'), (PROGRAM, './lockfree')) if word in script]
+    needs = [it for it, word in ((ARCHIVE, 'liblockfree.a'), (SHARED, 'liblockfree.so'), (BUILT, 'cmake'), (PROGRAM, './lockfree')) if word in script]
     # (the program itself, since the launcher may run it without a proof, which takes a minute)
-    return script.replace('c/out/liblockfree.a', ARCHIVE).replace('./lockfree ', f'{PROGRAM} ').replace('./lockfree\n', f'{PROGRAM}\n'), needs
+    return script.replace(BUILT, ARCHIVE).replace('./lockfree ', f'{PROGRAM} ').replace('./lockfree\n', f'{PROGRAM}\n'), needs
 
 
 def made(kind, says, language, code, room):
