@@ -238,14 +238,12 @@ private:
         } else {
             return me().with([this, word](core &of, seat &by) {
                 gives(&of);
-                const lockfree_answer answer =
-                    defined((lockfree_put)(&by.pass, word, UINT64_MAX));
-                if (__builtin_expect(answer.code == LOCKFREE_OK, 1)) {
+                const std::uint32_t code = begin_put(by.pass, word).code;
+                if (__builtin_expect(code == LOCKFREE_OK, 1)) {
                     by.template tally<K>(1);
                     return status::ok;
                 }
-                return is_plain(answer.code) ? static_cast<status>(answer.code)
-                                             : put_on(word, answer.code);
+                return is_plain(code) ? static_cast<status>(code) : put_on(word, code);
             });
         }
     }
@@ -257,7 +255,7 @@ private:
     /// The word, or the status that is the code of the answer.
     [[gnu::always_inline]] lockfree_answer take_one() noexcept {
         return me().with([this](core &of, seat &by) {
-            const lockfree_answer answer = defined((lockfree_take)(&by.pass, UINT64_MAX));
+            const lockfree_answer answer = begin_take(by.pass);
             if (__builtin_expect(answer.code == LOCKFREE_OK, 1)) {
                 gets(&of);
                 by.template tally<K>(-1);

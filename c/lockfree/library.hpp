@@ -89,12 +89,17 @@ inline lockfree_answer whole(handle &pass, lockfree_answer answer) noexcept {
     answer = detail::defined(answer);
     return __builtin_expect(answer.code == LOCKFREE_BUSY, 0) ? detail::go_on(pass) : answer;
 }
+/// What the library says at first: BUSY, if the tries were used up.
+inline lockfree_answer begin_put(handle &pass, std::uint64_t word) noexcept {
+    return defined((lockfree_put)(&pass, word, UINT64_MAX));
+}
+inline lockfree_answer begin_take(handle &pass) noexcept {
+    return defined((lockfree_take)(&pass, UINT64_MAX));
+}
 inline lockfree_answer put(handle &pass, std::uint64_t word) noexcept {
-    return whole(pass, (lockfree_put)(&pass, word, UINT64_MAX));
+    return whole(pass, begin_put(pass, word));
 }
-inline lockfree_answer take(handle &pass) noexcept {
-    return whole(pass, (lockfree_take)(&pass, UINT64_MAX));
-}
+inline lockfree_answer take(handle &pass) noexcept { return whole(pass, begin_take(pass)); }
 
 inline std::uint64_t word_of(const void *place) noexcept {
     return reinterpret_cast<std::uintptr_t>(place);

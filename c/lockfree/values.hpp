@@ -198,12 +198,14 @@ put_again(core &of, seat &by, std::uint64_t word, std::uint32_t code, Again &aga
     }
     return refused(of, code);
 }
-/// Goes on with a put that has been answered with `code`: to its end, and again while the container
-/// is full, as long as `again()` returns true.
-template <class T, kind K, class Again>
-status put_begun(core &of, seat &by, std::uint64_t word, std::uint32_t code, Again &again) {
+/// Goes on with a put that has been answered with `code`, and is not done: to its end, and again
+/// while the container is full, as long as `again()` returns true. Out of line, so that calls that
+/// succeed do not carry it.
+template <class T, kind K, class Again> [[gnu::noinline]] status
+put_begun(core &of, seat &by, std::uint64_t word, std::uint32_t code,
+          Again &again) noexcept(!waits<Again>) {
     code = detail::whole(by.pass, {0, code}).code;
-    if (__builtin_expect(code == LOCKFREE_OK, 1)) return put_done<K>(by);
+    if (code == LOCKFREE_OK) return put_done<K>(by);
     if constexpr (waits<Again>) return detail::put_again<T, K>(of, by, word, code, again);
     else return refused(of, code);
 }
@@ -211,8 +213,10 @@ status put_begun(core &of, seat &by, std::uint64_t word, std::uint32_t code, Aga
 template <class T, kind K, class Again> [[gnu::always_inline]] inline status
 put_word(core &of, seat &by, std::uint64_t word, Again &again) {
     gives(&of);
-    const lockfree_answer answer = defined((lockfree_put)(&by.pass, word, UINT64_MAX));
-    return detail::put_begun<T, K>(of, by, word, answer.code, again);
+    const std::uint32_t code = begin_put(by.pass, word).code;
+    if (__builtin_expect(code == LOCKFREE_OK, 1)) return put_done<K>(by);
+    if (!waits<Again> && is_plain(code)) return static_cast<status>(code);
+    return detail::put_begun<T, K>(of, by, word, code, again);
 }
 
 /// Whether a value is its own word, and no function of a user runs when it is made of these.
@@ -222,7 +226,7 @@ template <class T, class... Args> inline constexpr bool is_plain_word =
 /// Puts a value that is made of `args`, in its place if it lies in a cell. Its constructor, and the
 /// conversions of `args`, are functions of a user, so the seat is in use.
 template <class T, kind K, class Again, class... Args>
-status put_made(core &of, seat &by, Again &again, Args &&...args) {
+inline status put_made(core &of, seat &by, Again &again, Args &&...args) {
     const in_use<T> user(of, by);
     if constexpr (goes_by_value<T>) {
         const T value(std::forward<Args>(args)...);
@@ -247,7 +251,7 @@ status put_made(core &of, seat &by, Again &again, Args &&...args) {
 
 /// Puts a value by moving it; if it is refused, or `again` throws, it is moved back.
 template <class T, kind K, class Again>
-status put_moved(core &of, seat &by, Again &again, T &value) {
+inline status put_moved(core &of, seat &by, Again &again, T &value) {
     if constexpr (goes_by_value<T>) {
         return detail::put_word<T, K>(of, by, detail::word_of_value(value), again);
     } else {
