@@ -122,20 +122,21 @@ static void refusals_of_some(void)
     CHECK(is_ok(lockfree_free(&stack)) && is_ok(lockfree_free(&ring)) && is_ok(lockfree_free(&queue)));
 }
 
-enum { AT_ONCE = 8, OF_ONE = 64 };
+enum { AT_ONCE = 4, OF_ONE = 256 };
 
 struct others {
     lockfree_handle passes[OF_ONE];
-    const int *started;
+    const int *begun; /* how many joins */
 };
 
 static void *frees(void *with)
 {
     struct others *them = with;
-    while (!__atomic_load_n(them->started, __ATOMIC_ACQUIRE))
-        sched_yield();
-    for (int i = 0; i < OF_ONE; i++)
+    for (int i = 0; i < OF_ONE; i++) {
+        while (__atomic_load_n(them->begun, __ATOMIC_ACQUIRE) <= i) {
+        }
         CHECK(is_ok(lockfree_free(&them->passes[i])));
+    }
     return NULL;
 }
 
@@ -143,19 +144,20 @@ static void *frees(void *with)
 static void joined_while_others_end(void)
 {
     static struct others them[AT_ONCE];
-    lockfree_handle root = {0}, mine[AT_ONCE] = {{0}}, other = {0}, of_other = {0};
-    int started = 0;
+    lockfree_handle root = {0}, mine[OF_ONE] = {{0}}, other = {0}, of_other = {0};
+    int begun = 0;
     pthread_t threads[AT_ONCE];
     CHECK(is_ok(lockfree_queue_new(&root, 4)) && is_ok(lockfree_queue_new(&other, 4)) && is_ok(lockfree_split(&other, &of_other)));
-    for (int i = 0; i < AT_ONCE; i++) {
+    for (int i = 0; i < OF_ONE; i++)
         CHECK(is_ok(lockfree_split(&root, &mine[i])));
-        them[i].started = &started;
+    for (int i = 0; i < AT_ONCE; i++) {
+        them[i].begun = &begun;
         for (int j = 0; j < OF_ONE; j++)
             CHECK(is_ok(lockfree_split(&root, &them[i].passes[j])));
         CHECK(pthread_create(&threads[i], NULL, frees, &them[i]) == 0);
     }
-    __atomic_store_n(&started, 1, __ATOMIC_RELEASE);
-    for (int i = 0; i < AT_ONCE; i++) {
+    for (int i = 0; i < OF_ONE; i++) {
+        __atomic_store_n(&begun, i + 1, __ATOMIC_RELEASE);
         CHECK(lockfree_join(&root, &of_other) == LOCKFREE_OTHER_HANDLE && lockfree_join(&other, &mine[i]) == LOCKFREE_OTHER_HANDLE);
         CHECK(is_ok(lockfree_join(&root, &mine[i])));
     }
@@ -174,7 +176,7 @@ int main(void)
         refusals(makes[i]);
     }
     refusals_of_some();
-    for (int i = 0; i < 200; i++)
+    for (int i = 0; i < 100; i++)
         joined_while_others_end();
     puts("passed");
     return 0;
