@@ -222,8 +222,8 @@ private:
         };
     }
 
-    // Iterators come by reference, and the ends of a range are asked for while the seat is in use: a
-    // function of theirs may destroy this object.
+    // Iterators come by reference, and the ends of a range are asked for while the seat is in use:
+    // a function of theirs may destroy this object.
 
     /// `count` is how many were pushed.
     template <class It, class End>
