@@ -29,7 +29,7 @@ void call_twice(void *rounds) {
 }
 
 /// The first call of a thread in the last round, after which no destructor of a key runs.
-void call_in_the_last_round(void *round) {
+[[maybe_unused]] void call_in_the_last_round(void *round) {
     const auto next = reinterpret_cast<std::uintptr_t>(round) + 1;
     if (next <= PTHREAD_DESTRUCTOR_ITERATIONS) {
         CHECK(pthread_setspecific(last_key, reinterpret_cast<void *>(next)) == 0);
@@ -39,7 +39,7 @@ void call_in_the_last_round(void *round) {
     }
 }
 
-void threads_leave() {
+[[maybe_unused]] void threads_leave() {
     std::string out;
     for (int i = 0; i < 20; ++i) {
         std::thread([] { CHECK(pthread_setspecific(last_key, reinterpret_cast<void *>(std::uintptr_t{1})) == 0); }).join();
@@ -72,7 +72,9 @@ int main() {
     threads_end(true, 1);
     threads_end(false, 3);
     threads_end(true, 3);
+#ifndef LOCKFREE_UNDER_TSAN  // whose own state of a thread is gone in the last round
     CHECK(pthread_key_create(&last_key, call_in_the_last_round) == 0);  // after the key of the headers
     threads_leave();
+#endif
     std::puts("passed");
 }
