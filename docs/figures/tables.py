@@ -83,7 +83,7 @@ def lasts(values, a_second=1_000_000):
     """How long these values last at this rate, rounded down to years, months or days."""
     seconds = values // a_second
     if seconds < 90 * DAY:
-        return f"{seconds // DAY} days"
+        return f"{seconds // DAY} day" + "s" * (seconds >= 2 * DAY)
     return f"{seconds // YEAR:,} years" if seconds >= 2 * YEAR else f"{seconds * 12 // YEAR} months"
 
 
