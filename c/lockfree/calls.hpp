@@ -62,8 +62,8 @@ template <class Result> [[gnu::cold, gnu::noinline]] Result not_made(std::uint32
 /// Any number of threads may call a container at a time, and one thread a pass. A thread's first
 /// call of a container takes a lock and memory. The others take neither, but for what
 /// is_lock_free() and cells.hpp name. Each push and pop of one value takes effect at one moment,
-/// and fails to end only while other threads' calls succeed: both are proved of the algorithms, and
-/// docs/proof.md says what is proved of the code.
+/// and fails to end only while compare-and-swaps of other threads succeed: both are proved of the
+/// archive's calls, and docs/proof.md says how.
 ///
 /// Calls that return no status and whose names do not begin with try_ throw std::bad_alloc or
 /// std::length_error if a thread's first call finds no memory or no pass (pop_wait throws neither).
