@@ -1,4 +1,5 @@
 """Runs commands for tests, and says which failed."""
+import argparse
 import ctypes
 import os
 import signal
@@ -37,6 +38,13 @@ def run(command, folder=TOP, more=None, limit=LIMIT):
 def want(holds, what):
     if not holds:
         raise Failed(f"not so: {what}")
+
+
+def parser_of(doc, command):
+    """The parser of a command's words: --help prints `doc`, and a word that is not known ends the command with status 2."""
+    parser = argparse.ArgumentParser(description=doc, usage=argparse.SUPPRESS, formatter_class=argparse.RawDescriptionHelpFormatter, allow_abbrev=False)
+    parser.error = lambda why: parser.exit(2, f"{command}: {why}: see --help\n")
+    return parser
 
 
 def read(path):

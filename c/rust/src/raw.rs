@@ -137,7 +137,7 @@ impl Root {
 
     /// Takes back a pass that it has split off, so that it can split off another one.
     pub(crate) fn join(&mut self, mut pass: RawPass) {
-        // SAFETY: both handles are this call's alone. A pass that is not joined, as an empty one, is freed.
+        // SAFETY: both handles are this call's alone. (A pass that the root does not take is freed as it is dropped.)
         unsafe { lockfree_join(&mut self.0, &mut pass.0) };
     }
 
