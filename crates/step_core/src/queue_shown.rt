@@ -13,8 +13,8 @@ ghost use Rattle.step_core.specs.Linearizable.{IsLinearization, Linearizable, Li
 ghost use Rattle.step_core.specs.Scripts.{answers, ended};
 ghost use Rattle.step_core.specs.queue.Cast.{Plays, Fails, queue_with, cells_spent, full, no_take, put_closed, take_is};
 ghost use Rattle.step_core.specs.queue.Law.{Lawful, AllDone, NoneUnanswered, lines_of};
-ghost use Rattle.step_core.specs.queue.Rows.{smallest, alone, alone_refused, full_and_empty, helped, taker_holds, closed_before_full, close_overtakes_put, cells_worn, next_worn, left_over, stopped_after_link, same_head_other_tag, stale_link, same_node_other_tag, shut_queue, longest, PutStoppedEarly, PutStopped, PutStoppedLate, TakeStoppedEarly, TakeStoppedLate};
-ghost use Rattle.step_core.specs.queue.Overtaking.{look_and_shut, put_overtakes_close, close_overtakes_close, close_overtakes_full, full_helps, close_helps, put_left, put_dropped, looks, largest, spent_before_closed, next_spent_before_closed, null_before_limit, shut_before_empty, tail_before_link, tail_before_null_link, tail_before_node, head_before_tail, head_before_link, head_before_mark, head_before_answer, counts, gauges, PutsEnd, TakesEnd};
+ghost use Rattle.step_core.specs.queue.Rows.{alone, alone_refused, closed_before_full, shut_queue};
+ghost use Rattle.step_core.specs.queue.Overtaking.{look_and_shut, put_overtakes_close, spent_before_closed, next_spent_before_closed, null_before_limit, shut_before_empty, tail_before_link, tail_before_null_link, tail_before_node, head_before_tail, head_before_link, head_before_mark, head_before_answer, counts, gauges};
 ghost use Rattle.step_core.specs.queue.Orders.{limit_first, closed_first, next_limit_last, null_before_mark, link_before_tail, null_before_tail, node_before_tail, shut_last, empty_before_closed, link_before_head, mark_before_head, tail_before_null, tail_before_head, link_before_answer, count_before_head, count_to_tail, gauge_to_tail, gauge_before_next, mark_overlooked, marks_anyway, second_overlooked};
 ghost use Rattle.step_core.specs.queue.Mistakes.{hands_with_cell, hands_with_node, WinsHeld, cell_held, cell_held_twice, node_held, node_held_twice, number_again, linked_late, dummy_free, left_there, overtaken, put_after_close, take_after_shut, wrong_cell, no_node, linked_aside};
 ghost use Rattle.step_core.specs.queue.Object.{object, object_with_any_hands, answer};
@@ -27,39 +27,13 @@ ghost use Rattle.step_core.specs.queue.WrongRuns.{ends_where_it_lost, lost_take,
 /// tests are for.
 pub fn queue_exhibits()
     // Played rows.
-    ensures smallest { Plays smallest }
     ensures alone { Plays alone }
     ensures alone_refused { Plays alone_refused }
-    ensures full_and_empty { Plays full_and_empty }
-    ensures helped { Plays helped }
-    ensures taker_holds { Plays taker_holds }
     ensures closed_before_full { Plays closed_before_full }
-    ensures close_overtakes_put { Plays close_overtakes_put }
-    ensures cells_worn { Plays cells_worn }
-    ensures next_worn { Plays next_worn }
-    ensures left_over { Plays left_over }
-    ensures stopped_after_link { Plays stopped_after_link }
-    ensures same_head_other_tag { Plays same_head_other_tag }
-    ensures stale_link { Plays stale_link }
-    ensures same_node_other_tag { Plays same_node_other_tag }
     ensures shut_queue { Plays shut_queue }
-    ensures longest { Plays longest }
-    ensures put_stopped_early { PutStoppedEarly }
-    ensures put_stopped { PutStopped }
-    ensures put_stopped_late { PutStoppedLate }
-    ensures take_stopped_early { TakeStoppedEarly }
-    ensures take_stopped_late { TakeStoppedLate }
     // Rows in which passes overtake and help one another, and in which two reasons to refuse meet.
     ensures look_and_shut { Plays look_and_shut }
     ensures put_overtakes_close { Plays put_overtakes_close }
-    ensures close_overtakes_close { Plays close_overtakes_close }
-    ensures close_overtakes_full { Plays close_overtakes_full }
-    ensures full_helps { Plays full_helps }
-    ensures close_helps { Plays close_helps }
-    ensures put_left { Plays put_left }
-    ensures put_dropped { Plays put_dropped }
-    ensures looks { Plays looks }
-    ensures largest { Plays largest }
     ensures spent_before_closed { Plays spent_before_closed }
     ensures next_spent_before_closed { Plays next_spent_before_closed }
     ensures null_before_limit { Plays null_before_limit }
@@ -73,8 +47,6 @@ pub fn queue_exhibits()
     ensures head_before_answer { Plays head_before_answer }
     ensures counts { Plays counts }
     ensures gauges { Plays gauges }
-    ensures puts_end { PutsEnd }
-    ensures takes_end { TakesEnd }
     // With another order of tests, or without a comparison, a scene gets another reply.
     ensures limit_first_fails { Fails limit_first null_before_limit 2 (answers (cells_spent 2 z)) }
     ensures closed_first_fails { Fails closed_first spent_before_closed 4 (answers (put_closed z)) }

@@ -16,7 +16,7 @@ ghost use Rattle.step_core.specs.ring.Mistakes.{hands_with_cell, WinsHeld, cell_
 ghost use Rattle.step_core.specs.ring.Object.{object, object_with_any_hands, answer};
 ghost use Rattle.step_core.specs.ring.WrongAnswers.{put_another, handed_back, closed_instead, counts_once, counted_two};
 ghost use Rattle.step_core.specs.ring.WrongRuns.{ends_where_it_lost, lost_take, is_always_empty, stale_take, spoils_where_it_lost, starving, in_turn, resting_hand, full_of_resting_hands, second_cell, full_of_its_own, full_of_another_call, spent_too_early};
-ghost use Rattle.step_core.specs.ring.Rows.{smallest, alone, alone_refused, closed_before_full, closed_before_spent, shut_ring, close_overtakes_put, put_overtakes_close, stopped_put, counts};
+ghost use Rattle.step_core.specs.ring.Rows.{alone, closed_before_full, closed_before_spent, shut_ring, counts};
 ghost use Rattle.step_core.specs.ring.Orders.{limit_first, full_first, shut_last, empty_before_closed};
 
 /// Rows played by the ring's machine, by single steps of up to three passes, and machines that are
@@ -24,15 +24,10 @@ ghost use Rattle.step_core.specs.ring.Orders.{limit_first, full_first, shut_last
 /// their replies, and then one gets another. They show what the order of the tests is for.
 pub fn ring_exhibits()
     // Played rows.
-    ensures smallest { Plays smallest }
     ensures alone { Plays alone }
-    ensures alone_refused { Plays alone_refused }
     ensures closed_before_full { Plays closed_before_full }
     ensures closed_before_spent { Plays closed_before_spent }
     ensures shut_ring { Plays shut_ring }
-    ensures close_overtakes_put { Plays close_overtakes_put }
-    ensures put_overtakes_close { Plays put_overtakes_close }
-    ensures stopped_put { Plays stopped_put }
     ensures counts { Plays counts }
     // With another order of tests, or without the second look, a scene gets another reply.
     ensures limit_first_fails { Fails limit_first closed_before_spent 3 (answers (slot_spent 0 2 y)) }

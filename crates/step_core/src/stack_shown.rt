@@ -14,7 +14,7 @@ ghost use Rattle.step_core.specs.Linearizable.{IsLinearization, LinearizableWith
 ghost use Rattle.step_core.specs.Scripts.{answers, ended};
 ghost use Rattle.step_core.specs.stack.Cast.{Plays, Fails, stack_with, fold_is, free_spent, full, no_take, top_spent};
 ghost use Rattle.step_core.specs.stack.Law.{Lawful, AllDone, NoneUnanswered, lines_of};
-ghost use Rattle.step_core.specs.stack.Rows.{alone, same_node_other_tag, spent_top, ranges, folds, gauges, left_over, closed_under_a_put, range_spent, range_closed, range_full, spent_free, shut_stack, closed_before_spent_top, shut_is_overtaken, close_is_overtaken, folds_of_a_shut_stack, empty_and_shut, closed_before_spent_at_last, closed_before_full, shut_before_spent, put_overtakes_shut, close_overtakes_take, folds_alone};
+ghost use Rattle.step_core.specs.stack.Rows.{alone, spent_top, gauges, spent_free, closed_before_spent_top, close_is_overtaken, empty_and_shut, closed_before_spent_at_last, closed_before_full, shut_before_spent, put_overtakes_shut, close_overtakes_take, folds_alone};
 ghost use Rattle.step_core.specs.stack.Orders.{limit_before_null, limit_before_closed, limit_before_closed_at_last, full_first, empty_first, limit_first, answers_a_lost_mark, skips_the_walk, skips_the_turn, ignores_marks};
 ghost use Rattle.step_core.specs.stack.Mistakes.{hands_with_node, WinsHeld, node_held, node_held_twice, number_again, cut_off, forgotten, left_there, put_after_close, take_after_shut};
 ghost use Rattle.step_core.specs.stack.Object.{object, object_with_any_hands, answer};
@@ -26,22 +26,11 @@ ghost use Rattle.step_core.specs.stack.WrongRuns.{ends_where_it_lost, lost_take,
 pub fn stack_exhibits()
     // Played rows.
     ensures alone { Plays alone }
-    ensures same_node_other_tag { Plays same_node_other_tag }
     ensures spent_top { Plays spent_top }
-    ensures ranges { Plays ranges }
-    ensures folds { Plays folds }
     ensures gauges { Plays gauges }
-    ensures left_over { Plays left_over }
-    ensures closed_under_a_put { Plays closed_under_a_put }
-    ensures range_spent { Plays range_spent }
-    ensures range_closed { Plays range_closed }
-    ensures range_full { Plays range_full }
     ensures spent_free { Plays spent_free }
-    ensures shut_stack { Plays shut_stack }
     ensures closed_before_spent_top { Plays closed_before_spent_top }
-    ensures shut_is_overtaken { Plays shut_is_overtaken }
     ensures close_is_overtaken { Plays close_is_overtaken }
-    ensures folds_of_a_shut_stack { Plays folds_of_a_shut_stack }
     ensures empty_and_shut { Plays empty_and_shut }
     ensures closed_before_spent_at_last { Plays closed_before_spent_at_last }
     ensures closed_before_full { Plays closed_before_full }

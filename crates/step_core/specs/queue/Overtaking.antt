@@ -1,14 +1,12 @@
 -- Worked scripts of the queue in which passes overtake and help one another, and in which two reasons
 -- to refuse meet.
-use Rattle.std.specs.Prelude.{◌≡◌, ℕ, Bool, List, drop, map, replicate, true, false, [], ◌∷◌}
+use Rattle.std.specs.Prelude.{◌≡◌, true, false, [], ◌∷◌}
 use Rattle.bounded_model.specs.declared.answers.TakeRefused.TheVariants.{Empty, Closed, Shut}
-use Rattle.queue_machine.specs.declared.lines.Answer.{Answer}
 use Rattle.queue_machine.specs.declared.lines.Answer.TheVariants.{Close, Shut as ShutAnswer, Look, Len, Gauge}
 use Rattle.queue_machine.specs.declared.lines.Call.TheVariants.{Close as CloseCall, Shut as ShutCall, Look as LookCall, Len as LenCall, Gauge as GaugeCall}
-use Rattle.step_core.specs.Scripts.{Reply, curtain, replies, calls, begins, steps, finish, answers, again, ended, rest}
-use Rattle.queue_machine.specs.Answers.{shape}
-use Rattle.step_core.specs.Letters.{a, b, c, u, v, w, x, y, z}
-use Rattle.step_core.specs.queue.Cast.{Scene, scene, plays, put, take, put_is, full, put_closed, cells_spent, next_spent, take_is, no_take}
+use Rattle.step_core.specs.Scripts.{calls, begins, steps, finish, answers, again, ended, rest}
+use Rattle.step_core.specs.Letters.{a, b, c, v, w, x, y, z}
+use Rattle.step_core.specs.queue.Cast.{Scene, scene, put, take, put_is, full, put_closed, cells_spent, next_spent, take_is, no_take}
 
 -- a look sees the value that was put while it was under way; a shut finds the queue shut by another
 abbrev pub look_and_shut : Scene
@@ -33,88 +31,6 @@ put_overtakes_close = scene 2 7
     ∷ (calls b take, answers (take_is 0 x))
     ∷ (calls b take, answers (no_take Closed))
     ∷ (finish, rest [])
-    ∷ [])
-
--- a close finds the queue closed by another
-abbrev pub close_overtakes_close : Scene
-close_overtakes_close = scene 2 7
-    ((begins a CloseCall 2, again 2)
-    ∷ (calls b CloseCall, answers (Close true))
-    ∷ (steps a 20, ended (Close false) 7)
-    ∷ (finish, rest [])
-    ∷ [])
-
--- a put that has found no cell sees the close
-abbrev pub close_overtakes_full : Scene
-close_overtakes_full = scene 1 7
-    ((calls a (put x), answers (put_is 0))
-    ∷ (begins b (put y) 2, again 2)
-    ∷ (calls a CloseCall, answers (Close true))
-    ∷ (steps b 20, ended (put_closed y) 4)
-    ∷ (finish, rest (x ∷ []))
-    ∷ [])
-
--- a put that has found no cell moves a tail that another put has not moved
-abbrev pub full_helps : Scene
-full_helps = scene 2 9
-    ((calls a (put x), answers (put_is 0))
-    ∷ (begins c (put z) 13, again 13)
-    ∷ (begins b (put y) 20, ended (full y) 8)
-    ∷ (finish, rest (x ∷ z ∷ []))
-    ∷ [])
-
--- a close moves the tail, and takes continue
-abbrev pub close_helps : Scene
-close_helps = scene 3 9
-    ((begins a (put x) 13, again 13)
-    ∷ (begins b CloseCall 20, ended (Close true) 8)
-    ∷ (calls c take, answers (take_is 0 x))
-    ∷ (calls c take, answers (no_take Closed))
-    ∷ (steps a 3, ended (put_is 0) 14)
-    ∷ (finish, rest [])
-    ∷ [])
-
--- a pass that stops after it has taken its cell and its node keeps the cell: one value fits
-abbrev pub put_left : Scene
-put_left = scene 2 7
-    ((calls a (put x), answers (put_is 0))
-    ∷ (begins b (put y) 7, again 7)
-    ∷ (calls a (put z), answers (full z))
-    ∷ (calls c take, answers (take_is 0 x))
-    ∷ (calls c take, answers (no_take Empty))
-    ∷ (finish, rest [])
-    ∷ [])
-
--- a put that stops when it has its cell, and is dropped: another pass finds the queue full and empty
-abbrev pub put_dropped : Scene
-put_dropped = scene 1 7
-    ((begins a (put x) 3, again 3)
-    ∷ (calls b (put y), answers (full y))
-    ∷ (calls c (put z), answers (full z))
-    ∷ (calls b take, answers (no_take Empty))
-    ∷ (calls b CloseCall, answers (Close true))
-    ∷ (calls b (put y), answers (put_closed y))
-    ∷ (finish, rest [])
-    ∷ [])
-
--- looks, and a take that was begun before another took the value
-abbrev pub looks : Scene
-looks = scene 1 7
-    ((calls a LookCall, answers (Look true))
-    ∷ (calls a (put x), answers (put_is 0))
-    ∷ (calls a LookCall, answers (Look false))
-    ∷ (calls c LookCall, answers (Look false))
-    ∷ (begins a LookCall 3, ended (Look false) 3)
-    ∷ (begins a take 0, again 0)
-    ∷ (calls b take, answers (take_is 0 x))
-    ∷ (steps a 40, ended (no_take Empty) 4)
-    ∷ [])
-
--- the largest queue, with the greatest limit
-abbrev pub largest : Scene
-largest = scene 1048573 4398046511103
-    ((calls a (put x), answers (put_is 0))
-    ∷ (calls a take, answers (take_is 0 x))
     ∷ [])
 
 -- the tag of the free cells is looked at before the end of the chain
@@ -265,23 +181,3 @@ gauges = scene 2 9
     ∷ (calls b CloseCall, answers (Close true))
     ∷ (steps a 20, ended (Gauge true 2) 7)
     ∷ [])
-
--- A put stops after k of its steps while other passes put, take and close; a take stops while other passes take and
--- put. After 32 further steps each has ended
-abbrev pub has_ended : List (Reply (Answer ℕ)) → Bool
-has_ended (ended answer count ∷ []) = true
-has_ended replies = false
-
-abbrev pub put_ends : ℕ → Bool
-put_ends k = has_ended (drop 7 (replies (plays (shape 2 7)) (curtain (plays (shape 2 7)))
-    (calls b (put v) ∷ begins a (put y) k ∷ calls b (put w) ∷ calls b take ∷ calls b take ∷ calls b take ∷ calls b CloseCall ∷ steps a 32 ∷ [])))
-
-abbrev pub PutsEnd : Type 0
-PutsEnd = map put_ends (0 ∷ 1 ∷ 2 ∷ 3 ∷ 4 ∷ 5 ∷ 6 ∷ 7 ∷ 8 ∷ 9 ∷ 10 ∷ 11 ∷ 12 ∷ 13 ∷ []) ≡ replicate 14 true
-
-abbrev pub take_ends : ℕ → Bool
-take_ends k = has_ended (drop 7 (replies (plays (shape 2 7)) (curtain (plays (shape 2 7)))
-    (calls b (put v) ∷ calls b (put w) ∷ begins a take k ∷ calls b take ∷ calls b take ∷ calls b (put x) ∷ calls b (put u) ∷ steps a 32 ∷ [])))
-
-abbrev pub TakesEnd : Type 0
-TakesEnd = map take_ends (0 ∷ 1 ∷ 2 ∷ 3 ∷ 4 ∷ 5 ∷ 6 ∷ 7 ∷ 8 ∷ 9 ∷ 10 ∷ 11 ∷ []) ≡ replicate 12 true

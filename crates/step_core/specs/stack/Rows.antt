@@ -5,7 +5,7 @@ use Rattle.bounded_model.specs.declared.answers.TakeRefused.TheVariants.{Empty, 
 use Rattle.stack_machine.specs.declared.lines.Answer.TheVariants.{Close, Shut as ShutAnswer, Look, Gauge}
 use Rattle.stack_machine.specs.declared.lines.Call.TheVariants.{Close as CloseCall, Shut as ShutCall, Look as LookCall, Gauge as GaugeCall}
 use Rattle.step_core.specs.Scripts.{calls, begins, steps, finish, answers, again, ended, rest}
-use Rattle.step_core.specs.Letters.{a, b, c, t, u, v, w, x, y, z}
+use Rattle.step_core.specs.Letters.{a, b, w, x, y, z}
 use Rattle.step_core.specs.stack.Cast.{Scene, scene, put, range, take, fold, reversed_fold, put_is, range_is, full, put_closed, top_spent, free_spent, take_is, no_take, fold_is, no_fold}
 
 -- how many steps each call makes alone: put and take, a full put, an empty take, close, shut, look
@@ -18,21 +18,6 @@ alone = scene 1 15
     ∷ (begins a CloseCall 40, ended (Close true) 2)
     ∷ (begins a ShutCall 40, ended (ShutAnswer true) 2)
     ∷ (begins a LookCall 40, ended (Look true) 1)
-    ∷ [])
-
--- at the lost exchange the top names the old node again, with tag 5, after a had read tag 2
-abbrev pub same_node_other_tag : Scene
-same_node_other_tag = scene 3 15
-    ((calls b (put x), answers (put_is 0))
-    ∷ (calls b (put y), answers (put_is 1))
-    ∷ (begins a take 2, again 2)
-    ∷ (calls b take, answers (take_is 2 y))
-    ∷ (calls b take, answers (take_is 3 x))
-    ∷ (begins c (put z) 3, again 3)
-    ∷ (calls b (put w), answers (put_is 4))
-    ∷ (steps a 1, again 3)
-    ∷ (steps a 6, ended (take_is 5 w) 9)
-    ∷ (steps c 3, ended (put_is 6) 6)
     ∷ [])
 
 -- the top's tag is at the limit
@@ -48,30 +33,6 @@ spent_top = scene 2 2
     ∷ (finish, rest (y ∷ x ∷ []))
     ∷ [])
 
--- a range goes in by one exchange, as much of it as finds nodes
-abbrev pub ranges : Scene
-ranges = scene 3 15
-    ((calls a (range 1 (2 ∷ 3 ∷ 4 ∷ 5 ∷ [])), answers (range_is 0 (4 ∷ 5 ∷ [])))
-    ∷ (calls a take, answers (take_is 1 3))
-    ∷ (calls a (range 6 (7 ∷ [])), answers (range_is 2 (7 ∷ [])))
-    ∷ (calls a take, answers (take_is 3 6))
-    ∷ [])
-
-abbrev pub folds : Scene
-folds = scene 3 15
-    ((calls a (put x), answers (put_is 0))
-    ∷ (calls a (put y), answers (put_is 1))
-    ∷ (calls a (put z), answers (put_is 2))
-    ∷ (calls a fold, answers (fold_is 3 (z ∷ y ∷ x ∷ [])))
-    ∷ (calls a (put u), answers (put_is 4))
-    ∷ (calls a (put v), answers (put_is 5))
-    ∷ (calls a (put w), answers (put_is 6))
-    ∷ (calls a reversed_fold, answers (fold_is 7 (u ∷ v ∷ w ∷ [])))
-    ∷ (calls a (put t), answers (put_is 8))
-    ∷ (calls a fold, answers (fold_is 9 (t ∷ [])))
-    ∷ (calls a fold, answers (no_fold Empty))
-    ∷ [])
-
 -- gauges: each put and each take uses a tag, of one value or of many
 abbrev pub gauges : Scene
 gauges = scene 3 9
@@ -82,52 +43,6 @@ gauges = scene 3 9
     ∷ (calls b CloseCall, answers (Close true))
     ∷ (calls b fold, answers (fold_is 2 (y ∷ x ∷ [])))
     ∷ (begins a GaugeCall 40, ended (Gauge true 3) 1)
-    ∷ [])
-
--- what is left, from the top down
-abbrev pub left_over : Scene
-left_over = scene 3 7
-    ((calls a (put x), answers (put_is 0))
-    ∷ (calls a (put y), answers (put_is 1))
-    ∷ (calls a (put z), answers (put_is 2))
-    ∷ (calls b LookCall, answers (Look false))
-    ∷ (calls b take, answers (take_is 3 z))
-    ∷ (finish, rest (y ∷ x ∷ []))
-    ∷ [])
-
--- a close overtakes a put that holds a node
-abbrev pub closed_under_a_put : Scene
-closed_under_a_put = scene 1 7
-    ((begins a (put x) 3, again 3)
-    ∷ (calls b CloseCall, answers (Close true))
-    ∷ (steps a 20, ended (put_closed (x ∷ [])) 7)
-    ∷ (calls b take, answers (no_take Closed))
-    ∷ [])
-
-abbrev pub range_spent : Scene
-range_spent = scene 3 2
-    ((calls a (range x (y ∷ z ∷ [])), answers (range_is 0 (z ∷ [])))
-    ∷ (calls a (range z []), answers (free_spent 2 (z ∷ [])))
-    ∷ (calls a take, answers (take_is 1 y))
-    ∷ (calls a fold, answers (no_fold (Spent TopWord 2)))
-    ∷ [])
-
-abbrev pub range_closed : Scene
-range_closed = scene 2 7
-    ((calls a CloseCall, answers (Close true))
-    ∷ (calls a (range x (y ∷ [])), answers (put_closed (x ∷ y ∷ [])))
-    ∷ (calls a fold, answers (no_fold Closed))
-    ∷ [])
-
-abbrev pub range_full : Scene
-range_full = scene 1 7
-    ((calls a (put x), answers (put_is 0))
-    ∷ (calls a (range y (z ∷ [])), answers (full (y ∷ z ∷ [])))
-    ∷ (calls b fold, answers (fold_is 1 (x ∷ [])))
-    ∷ (calls a (range y (z ∷ [])), answers (range_is 2 (z ∷ [])))
-    ∷ (calls a (put w), answers (full (w ∷ [])))
-    ∷ (calls b take, answers (take_is 3 y))
-    ∷ (calls a (put w), answers (put_is 4))
     ∷ [])
 
 -- both tags at their limits
@@ -143,16 +58,6 @@ spent_free = scene 2 2
     ∷ (calls a take, answers (no_take Closed))
     ∷ [])
 
-abbrev pub shut_stack : Scene
-shut_stack = scene 2 7
-    ((calls a (put x), answers (put_is 0))
-    ∷ (calls a ShutCall, answers (ShutAnswer true))
-    ∷ (calls a (put y), answers (put_is 1))
-    ∷ (calls a take, answers (no_take Shut))
-    ∷ (calls a fold, answers (no_fold Shut))
-    ∷ (finish, rest (y ∷ x ∷ []))
-    ∷ [])
-
 -- a close overtakes a put whose node is linked, and the tag is at the limit by then
 abbrev pub closed_before_spent_top : Scene
 closed_before_spent_top = scene 2 2
@@ -164,17 +69,6 @@ closed_before_spent_top = scene 2 2
     ∷ (finish, rest [])
     ∷ [])
 
--- a shut that has read the top finds it shut at its exchange, and looks again
-abbrev pub shut_is_overtaken : Scene
-shut_is_overtaken = scene 2 7
-    ((calls a (put x), answers (put_is 0))
-    ∷ (begins a ShutCall 1, again 1)
-    ∷ (calls b ShutCall, answers (ShutAnswer true))
-    ∷ (steps a 1, again 2)
-    ∷ (steps a 5, ended (ShutAnswer false) 3)
-    ∷ (finish, rest (x ∷ []))
-    ∷ [])
-
 abbrev pub close_is_overtaken : Scene
 close_is_overtaken = scene 2 7
     ((calls a (put x), answers (put_is 0))
@@ -184,16 +78,6 @@ close_is_overtaken = scene 2 7
     ∷ (steps a 9, ended (Close true) 4)
     ∷ (calls b CloseCall, answers (Close false))
     ∷ (finish, rest (y ∷ x ∷ []))
-    ∷ [])
-
-abbrev pub folds_of_a_shut_stack : Scene
-folds_of_a_shut_stack = scene 2 7
-    ((calls a (put x), answers (put_is 0))
-    ∷ (calls a ShutCall, answers (ShutAnswer true))
-    ∷ (calls a fold, answers (no_fold Shut))
-    ∷ (calls a reversed_fold, answers (no_fold Shut))
-    ∷ (begins a take 1, ended (no_take Shut) 1)
-    ∷ (finish, rest (x ∷ []))
     ∷ [])
 
 abbrev pub empty_and_shut : Scene
