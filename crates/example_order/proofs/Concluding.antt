@@ -23,9 +23,9 @@ use Rattle.ring_table.specs.Lines.{call_of}
 use Rattle.ring_table.proofs.Laws.{ring_on}
 use Rattle.running.specs.Going.{HasRun}
 use Rattle.running.specs.Kept.{WasRun}
-use Rattle.ring_queue.specs.Calls.{is_call}
-use Rattle.ring_queue.specs.Putting.{put_account}
-use Rattle.ring_queue.specs.Ring.{RingQueue, Pass, laps_of, machine_of, pass_in, passes_of, room_of}
+use Rattle.ring_queue.specs.code.Machine.{is_call}
+use Rattle.ring_queue.specs.code.Putting.{put_account}
+use Rattle.ring_queue.specs.Calls.{RingQueue, Pass, laps_of, machine_of, pass_in, passes_of, room_of}
 use Rattle.runs.specs.ring.Full.{WasFull}
 use Rattle.tagged_index.specs.declared.limit.Limits.{Limits}
 use Rattle.runs.specs.InTime.{DidOnce, HeardOf, InOneOrder, InTurn, IsCallOf, KnownCall, put_effect, take_effect}

@@ -9,7 +9,7 @@ use Rattle.bounded_model.specs.Machine.{Shape}
 use Rattle.machine.specs.Seats.{Acts}
 use Rattle.ring_table.specs.declared.line.SeatLine.{SeatLine}
 use Rattle.running.specs.Kept.{acts_in}
-use Rattle.ring_queue.specs.Ring.{RingQueue, Pass, laps_of, pass_in, passes_of, room_of}
+use Rattle.ring_queue.specs.Calls.{RingQueue, Pass, laps_of, pass_in, passes_of, room_of}
 use Rattle.runs.specs.ring.Full.{WasFull}
 use Rattle.runs.specs.InTime.{InOneOrder, IsBefore, KnownCall, put_effect, take_effect}
 use mathlib.Core.Option.{some}

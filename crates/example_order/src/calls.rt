@@ -2,9 +2,8 @@
 ghost use Rattle.bounded_model.specs.Laws.{Leaves, PutGives};
 ghost use Rattle.running.specs.Ends.{IsRunAfter};
 ghost use Rattle.running.specs.Kept.{acts_of_root};
-ghost use Rattle.ring_queue.specs.Leaving.{left_in};
-ghost use Rattle.ring_queue.specs.Ring.{IsPassOf, laps_of, machine_of, pass_in, room_of, shape_of};
-ghost use Rattle.ring_queue.specs.Roots.{IsRootOf, root_in};
+ghost use Rattle.ring_queue.specs.code.Leaving.{left_in};
+ghost use Rattle.ring_queue.specs.Calls.{IsPassOf, laps_of, machine_of, pass_in, room_of, shape_of, IsRootOf, root_in};
 ghost use Rattle.runs.specs.ring.Bounded.{call_in};
 ghost use Rattle.runs.specs.ring.Linearizable.{answer_at};
 ghost use Rattle.runs.specs.OneRun.{OneRun};

@@ -2,7 +2,7 @@
 //! compare-and-swap takes them all. The pool is a stack, so that the buffer used last is used next.
 
 ghost use Rattle.std.specs.Prelude.{◌≡◌, ◌≤◌, All, IfOk, length};
-ghost use Rattle.treiber_stack.specs.Stack.{IsPassOf, IsRootOf};
+ghost use Rattle.treiber_stack.specs.Calls.{IsPassOf, IsRootOf};
 ghost use Rattle.examples.specs.Puts.{PutsOne};
 ghost use Rattle.examples.specs.declared.buffers.TheConstants.{SIZE};
 

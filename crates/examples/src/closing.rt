@@ -5,7 +5,7 @@
 ghost use Rattle.std.specs.Prelude.{◌≡◌, ◌++◌, IfSome};
 ghost use Rattle.std.specs.List.{range_with_len};
 ghost use Rattle.bounded_model.specs.Gathers.{did, put_of};
-ghost use Rattle.treiber_stack.specs.Stack.{IsPassOf};
+ghost use Rattle.treiber_stack.specs.Calls.{IsPassOf};
 ghost use Rattle.examples.specs.Puts.{PutsOne};
 
 use crate::fault::Fault;

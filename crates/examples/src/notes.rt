@@ -3,7 +3,7 @@
 
 ghost use Rattle.std.specs.Prelude.{◌≡◌, IfErr, IfOk, IfSome};
 ghost use Rattle.bounded_model.specs.Justified.{take_answer};
-ghost use Rattle.ms_queue.specs.Queue.{IsPassOf, IsNoteOf};
+ghost use Rattle.ms_queue.specs.Calls.{IsPassOf, IsNoteOf};
 ghost use Rattle.examples.specs.Told.{TellsOfPut, RightSince};
 
 use crate::fault::Fault;

@@ -1,7 +1,7 @@
 //! Two threads over one queue: a producer puts numbers and closes the queue, a consumer takes until
 //! it is closed and empty.
 
-ghost use Rattle.ms_queue.specs.Queue.{IsPassOf};
+ghost use Rattle.ms_queue.specs.Calls.{IsPassOf};
 
 use crate::fault::Fault;
 use bounded_model::Container;

@@ -2,7 +2,7 @@
 //! that one makes for the other, and a gauge.
 
 ghost use Rattle.std.specs.Prelude.{IfOk, IfSome};
-ghost use Rattle.treiber_stack.specs.Stack.{IsPassOf};
+ghost use Rattle.treiber_stack.specs.Calls.{IsPassOf};
 
 use crate::fault::Fault;
 use bounded_model::{Bulk, Container, PutRefused, Stepped, consume_one};

@@ -6,7 +6,7 @@ ghost use Rattle.tagged_index.specs.Limits.{capacity_of, passes_of, tag_limit_of
 ghost use Rattle.tagged_index.specs.declared.word.TheConstants.{MAX_TAG};
 ghost use Rattle.relay_args.specs.declared.ranges.TheConstants.{MAX_FILES, MAX_RELAY_PASSES};
 ghost use Rattle.relay_args.specs.declared.args.Kind.TheVariants.{Ring};
-ghost use Rattle.ring_queue.specs.Limits.{laps_at};
+ghost use Rattle.ring_queue.specs.code.Machine.{laps_at};
 ghost use Rattle.ring_queue.specs.declared.life.limits.TheConstants.{MAX_LAPS};
 ghost use Rattle.file_relay.specs.declared.tool_fault.ToolFault.TheVariants.{Output, Relay};
 ghost use Rattle.relay.specs.declared.faults.RelayFault.{RelayFault};

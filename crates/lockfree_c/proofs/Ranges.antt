@@ -23,18 +23,20 @@ use Rattle.stack_machine.specs.declared.lines.Putting.{Putting}
 use Rattle.stack_machine.specs.declared.lines.Taking.TheVariants.{One, Whole}
 use Rattle.stack_table.specs.Lines.{call_of}
 use Rattle.stack_table.specs.declared.operation.Operation.{Operation}
-use Rattle.treiber_stack.specs.Giving.{give_line}
-use Rattle.treiber_stack.specs.Ranging.{IsRangeAt, refused}
-use Rattle.treiber_stack.specs.RangeTrying.{IsRangeOp, MadeWith, RangeOp, RangeSteps, gives_back, left_at, left_by}
-use Rattle.treiber_stack.specs.Refusing.{barring}
-use Rattle.treiber_stack.specs.Stack.{IsAt, begun_of, pass_in, shape_of}
+use Rattle.treiber_stack.specs.code.Giving.{give_line}
+use Rattle.treiber_stack.specs.code.Ranging.{IsRangeAt, refused}
+use Rattle.treiber_stack.specs.code.RangeTrying.{IsRangeOp, MadeWith, RangeOp, gives_back, left_at, left_by}
+use Rattle.treiber_stack.specs.Bulk.{RangeSteps}
+use Rattle.treiber_stack.specs.code.Refusing.{barring}
+use Rattle.treiber_stack.specs.code.Steps.{IsAt}
+use Rattle.treiber_stack.specs.Calls.{begun_of, pass_in, shape_of}
 use Rattle.treiber_stack.specs.declared.bulk.range_steps.Held.{Held}
 use Rattle.treiber_stack.specs.declared.bulk.range_steps.RangeAt.{RangeAt}
 use Rattle.treiber_stack.specs.declared.bulk.range_steps.RangeAt.TheVariants.{GiveBack}
-use Rattle.treiber_stack.specs.declared.call_parts.giving.Give.{Give}
-use Rattle.treiber_stack.specs.declared.call_parts.giving.Give.TheVariants.{Load, Link, Exchange}
-use Rattle.treiber_stack.specs.declared.call_parts.refusing.Barred.{Barred}
-use Rattle.treiber_stack.specs.declared.call_parts.refusing.Barred.TheVariants.{Closed, Spent}
+use Rattle.treiber_stack.specs.declared.code.giving.Give.{Give}
+use Rattle.treiber_stack.specs.declared.code.giving.Give.TheVariants.{Load, Link, Exchange}
+use Rattle.treiber_stack.specs.declared.code.refusing.Barred.{Barred}
+use Rattle.treiber_stack.specs.declared.code.refusing.Barred.TheVariants.{Closed, Spent}
 use Rattle.treiber_stack.specs.declared.life.stack.Stack.{Stack}
 use Rattle.lockfree_c.specs.Stacks.{RangeTook, RangeTookFrom, RangeWentOn, RangeWorkedAtMost, StackMade}
 use Rattle.lockfree_c.specs.declared.calls.stack.StackWork.TheVariants.{Copy}

@@ -2,9 +2,9 @@
 use Rattle.std.specs.Prelude.{ℕ, List, Bool, true, false}
 use Rattle.index_list.specs.declared.front.Front.{Front}
 use Rattle.index_list.specs.declared.front.Front.TheVariants.{First, Last}
-use Rattle.treiber_stack.specs.Copying.{IsCopying}
-use Rattle.treiber_stack.specs.Stack as stack
-use Rattle.treiber_stack.specs.Stepwise.{AnyOp}
+use Rattle.treiber_stack.specs.Bulk.{IsCopying}
+use Rattle.treiber_stack.specs.Calls as stack
+use Rattle.treiber_stack.specs.Calls.{AnyOp}
 use Rattle.lockfree_c.specs.Passes.{PassBegan, PassWorks}
 use Rattle.lockfree_c.specs.Stacks.{Copied, CopiedOn, Folded, Stack, stack_reading}
 use Rattle.lockfree_c.specs.declared.answers.Answer.{Answer}

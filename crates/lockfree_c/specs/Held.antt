@@ -7,14 +7,12 @@ use Rattle.bounded_model.specs.declared.commands.Command.{Command}
 use Rattle.index_list.specs.declared.front.Front.{Front}
 use Rattle.queue_machine.specs.Answers as queue_machine
 use Rattle.stack_machine.specs.Answers as stack_machine
-use Rattle.ms_queue.specs.Left as queue_left
-use Rattle.ms_queue.specs.Queue as queue
-use Rattle.ms_queue.specs.Stepwise as queue_op
-use Rattle.treiber_stack.specs.Left as stack_left
+use Rattle.ms_queue.specs.code.Left as queue_left
+use Rattle.ms_queue.specs.Calls as queue
+use Rattle.treiber_stack.specs.code.Left as stack_left
 use Rattle.ring_table.specs.Core.{shape_for}
-use Rattle.ring_queue.specs.Leaving as ring_left
-use Rattle.ring_queue.specs.Ring as ring
-use Rattle.ring_queue.specs.Stepwise as ring_op
+use Rattle.ring_queue.specs.code.Leaving as ring_left
+use Rattle.ring_queue.specs.Calls as ring
 use Rattle.ring_queue.specs.declared.life.limits.TheConstants.{MIN_LAPS, MAX_LAPS}
 use Rattle.lockfree_c.specs.Bulk.{Continues, PassCopied, PassFolded, StackPass}
 use Rattle.lockfree_c.specs.Codes.{bare}
@@ -34,10 +32,10 @@ use Rattle.lockfree_c.specs.declared.pass.PassOf.{PassOf}
 use Rattle.lockfree_c.specs.declared.side.Side.TheVariants.{Pass}
 
 abbrev pub QueuePass : Type 0
-QueuePass = PassOf queues.Queue (queue.Pass ℕ) (queue_op.AnyOp ℕ) QueueWork
+QueuePass = PassOf queues.Queue (queue.Pass ℕ) (queue.AnyOp ℕ) QueueWork
 
 abbrev pub RingPass : Type 0
-RingPass = PassOf rings.Ring (ring.Pass ℕ) (ring_op.AnyOp ℕ) RingWork
+RingPass = PassOf rings.Ring (ring.Pass ℕ) (ring.AnyOp ℕ) RingWork
 
 -- What holds between calls
 abbrev pub IsHeld : Held → Type 0

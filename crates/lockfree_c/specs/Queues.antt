@@ -11,14 +11,10 @@ use Rattle.running.specs.Kept.{WasRun}
 use Rattle.running.specs.Passes as passes
 use Rattle.queue_machine.specs.declared.lines.Answer.TheVariants.{Gauge as AnswerGauge}
 use Rattle.queue_table.specs.declared.operation.Operation.TheVariants.{Gauge as GaugeFirst}
-use Rattle.ms_queue.specs.Calls.{is_call}
-use Rattle.ms_queue.specs.Counting.{IsCounting}
-use Rattle.ms_queue.specs.Every.{every_account}
-use Rattle.ms_queue.specs.Gauging.{GaugeGives, IsGauging}
-use Rattle.ms_queue.specs.Queue as queue
-use Rattle.ms_queue.specs.Ran as run
-use Rattle.ms_queue.specs.Stepwise.{AnyOp, IsMakingCall, making}
-use Rattle.ms_queue.specs.Trying.{LenTried}
+use Rattle.ms_queue.specs.code.Machine.{is_call}
+use Rattle.ms_queue.specs.Calls.{IsCounting, GaugeGives, IsGauging, AnyOp, IsMakingCall, making, LenTried}
+use Rattle.ms_queue.specs.code.Every.{every_account}
+use Rattle.ms_queue.specs.Calls as queue
 use Rattle.lockfree_c.specs.Calls.{Reading, WorkedFor, steps_of}
 use Rattle.lockfree_c.specs.declared.calls.queue.QueueWork.{QueueWork}
 use Rattle.lockfree_c.specs.declared.calls.queue.QueueWork.TheVariants.{Count, Gauge}
@@ -65,7 +61,7 @@ module _ (c : Queue) where
   GaugeTried v (Again (Gauge next)) = IsGauging c next × (passes.begun_of (queue.machine_of c) next.pass ≡ v)
   GaugeTried v (Done back (said.Gauge closed used)) = queue.IsPassOf c back
       × GaugeGives (queue.room_of c) (queue.limit_of c) v (queue.pass_in back) (record { closed = closed; used = used })
-      × Answers v (queue.pass_in back) (answered.Gauge closed used) × run.WasRun c GaugeFirst v back (AnswerGauge closed used)
+      × Answers v (queue.pass_in back) (answered.Gauge closed used) × queue.WasRun c GaugeFirst v back (AnswerGauge closed used)
   GaugeTried v made = ⊥
 
   -- a count, which makes four steps at once, and a gauge were begun and tried

@@ -11,15 +11,10 @@ use Rattle.running.specs.Kept.{WasRun}
 use Rattle.running.specs.Passes as passes
 use Rattle.ring_machine.specs.declared.lines.Answer.TheVariants.{Gauge as AnswerGauge, Len as AnswerLen}
 use Rattle.ring_table.specs.declared.operation.Operation.TheVariants.{Gauge as GaugeFirst, Len as LenFirst}
-use Rattle.ring_queue.specs.Calls.{is_call}
-use Rattle.ring_queue.specs.Counting.{IsCounting}
-use Rattle.ring_queue.specs.Every.{every_account}
-use Rattle.ring_queue.specs.Gauging.{GaugeGives, IsGauging}
-use Rattle.ring_queue.specs.Ran as run
-use Rattle.ring_queue.specs.Refusals.{FullTells, SpentTells}
-use Rattle.ring_queue.specs.Ring as ring
-use Rattle.ring_queue.specs.Roots.{IsRootOf, Root, root_in}
-use Rattle.ring_queue.specs.Stepwise.{AnyOp, IsMakingCall, making}
+use Rattle.ring_queue.specs.code.Machine.{is_call}
+use Rattle.ring_queue.specs.Calls.{IsCounting, GaugeGives, IsGauging, FullTells, SpentTells, IsRootOf, Root, root_in, AnyOp, IsMakingCall, making}
+use Rattle.ring_queue.specs.code.Every.{every_account}
+use Rattle.ring_queue.specs.Calls as ring
 use Rattle.lockfree_c.specs.Calls.{Reading, WorkedFor, steps_of}
 use Rattle.lockfree_c.specs.declared.calls.ring.RingWork.{RingWork}
 use Rattle.lockfree_c.specs.declared.calls.ring.RingWork.TheVariants.{Count, Gauge}
@@ -59,7 +54,7 @@ module _ (c : Ring) where
   abbrev pub CountTried : PassView ℕ → RingMade → Type 0
   CountTried v (Again (Count next)) = IsCounting c next × (passes.begun_of (ring.machine_of c) next.pass ≡ v)
   CountTried v (Done back (said.Count n)) = ring.IsPassOf c back × LenGives (ring.shape_of c) v (ring.pass_in back) n × Answers v (ring.pass_in back) (answered.Len n)
-      × run.WasRun c LenFirst v back (AnswerLen n)
+      × ring.WasRun c LenFirst v back (AnswerLen n)
   CountTried v made = ⊥
 
   -- a gauge was tried: it is under way, begun as before, or has shown how the ring was at one moment since, in one run
@@ -67,7 +62,7 @@ module _ (c : Ring) where
   GaugeTried v (Again (Gauge next)) = IsGauging c next × (passes.begun_of (ring.machine_of c) next.pass ≡ v)
   GaugeTried v (Done back (said.Gauge closed used)) = ring.IsPassOf c back
       × GaugeGives (ring.room_of c) (ring.laps_of c) v (ring.pass_in back) (record { closed = closed; used = used })
-      × Answers v (ring.pass_in back) (answered.Gauge closed used) × run.WasRun c GaugeFirst v back (AnswerGauge closed used)
+      × Answers v (ring.pass_in back) (answered.Gauge closed used) × ring.WasRun c GaugeFirst v back (AnswerGauge closed used)
   GaugeTried v made = ⊥
 
   -- a count and a gauge were begun and tried

@@ -13,14 +13,13 @@ use Rattle.running.specs.Passes as passes
 use Rattle.stack_machine.specs.Machine.{ends}
 use Rattle.stack_machine.specs.declared.lines.Answer.TheVariants.{Gauge as AnswerGauge}
 use Rattle.stack_machine.specs.declared.lines.Line.TheVariants.{LoadTopToGauge}
-use Rattle.treiber_stack.specs.Calls.{is_call}
-use Rattle.treiber_stack.specs.Copying as copying
-use Rattle.treiber_stack.specs.Every.{every_account}
-use Rattle.treiber_stack.specs.FoldOp as folding
-use Rattle.treiber_stack.specs.Gauging.{GaugeGives}
-use Rattle.treiber_stack.specs.RangeTrying as ranging
-use Rattle.treiber_stack.specs.Stack as stack
-use Rattle.treiber_stack.specs.Stepwise.{AnyOp, IsMakingCall, making}
+use Rattle.treiber_stack.specs.code.Machine.{is_call}
+use Rattle.treiber_stack.specs.code.Every.{every_account}
+use Rattle.treiber_stack.specs.Calls.{GaugeGives, AnyOp, IsMakingCall, making}
+use Rattle.treiber_stack.specs.Bulk as bulk
+use Rattle.treiber_stack.specs.Calls as stack
+use Rattle.treiber_stack.specs.code.RangeTrying as ranging
+use Rattle.treiber_stack.specs.code.Steps.{OneLine}
 use Rattle.treiber_stack.specs.declared.bulk.fold_op.FoldMade.TheVariants as fold
 use Rattle.lockfree_c.specs.Calls.{Reading, WorkedFor, steps_of}
 use Rattle.lockfree_c.specs.declared.calls.stack.StackWork.{StackWork}
@@ -54,8 +53,8 @@ bulk_steps = steps_of 10 3
 
 -- the put of a range that was under way was tried for n steps a part
 abbrev pub RangeTook : ℕ → ranging.RangeOp ℕ → StackMade → Type 0
-RangeTook n op (Again (Copy next)) = ranging.RangeSteps n op (stepped.Again next)
-RangeTook n op (Done back (said.Range answer)) = ranging.RangeSteps n op (stepped.Done back answer)
+RangeTook n op (Again (Copy next)) = bulk.RangeSteps n op (stepped.Again next)
+RangeTook n op (Done back (said.Range answer)) = bulk.RangeSteps n op (stepped.Done back answer)
 RangeTook n op made = ⊥
 
 -- the steps of one that its pass began as v: those of a part that took its nodes, unless it is on its way back, and exactly n if it has no node yet
@@ -77,15 +76,15 @@ RangeWorkedAtMost n values v made = WorkedAtMost (length values * (n + 2) + 2 * 
 module _ (c : Stack) where
   -- a fold from this end, that had handed out these values and its pass began as v, was tried
   abbrev pub FoldTried : Front → List ℕ → PassView ℕ → StackMade → Type 0
-  FoldTried front values v (Again (Fold next)) = folding.FoldTried c front values v (fold.Again next)
-  FoldTried front values v (Value x (Fold next)) = folding.FoldTried c front values v (fold.Value x next)
-  FoldTried front values v (Done back (said.Fold answer)) = folding.FoldTried c front values v (fold.Done back answer)
+  FoldTried front values v (Again (Fold next)) = bulk.FoldTried c front values v (fold.Again next)
+  FoldTried front values v (Value x (Fold next)) = bulk.FoldTried c front values v (fold.Value x next)
+  FoldTried front values v (Done back (said.Fold answer)) = bulk.FoldTried c front values v (fold.Done back answer)
   FoldTried front values v made = ⊥
 
   -- a put of these values from an array was tried
   abbrev pub CopyTried : List ℕ → PassView ℕ → StackMade → Type 0
-  CopyTried values v (Again (Copy next)) = copying.CopyTried c values v (stepped.Again next)
-  CopyTried values v (Done back (said.Range answer)) = copying.CopyTried c values v (stepped.Done back answer)
+  CopyTried values v (Again (Copy next)) = bulk.CopyTried c values v (stepped.Again next)
+  CopyTried values v (Done back (said.Range answer)) = bulk.CopyTried c values v (stepped.Done back answer)
   CopyTried values v made = ⊥
 
   -- a gauge has shown how the stack was at one moment since its pass was v: it was one step, the load of the top, of the pass `by`, which was v
@@ -93,7 +92,7 @@ module _ (c : Stack) where
   GaugeTried v (Done back (said.Gauge closed used)) = stack.IsPassOf c back
       × GaugeGives (stack.room_of c) (stack.limit_of c) v (stack.pass_in back) (record { closed = closed; used = used })
       × Answers v (stack.pass_in back) (answered.Gauge closed used)
-      × ((by : stack.Pass ℕ) × (stack.pass_in by ≡ v) × stack.OneLine c by.pass back.pass LoadTopToGauge (ends (AnswerGauge closed used)))
+      × ((by : stack.Pass ℕ) × (stack.pass_in by ≡ v) × OneLine c by.pass back.pass LoadTopToGauge (ends (AnswerGauge closed used)))
   GaugeTried v made = ⊥
 
   -- a gauge is one step, whatever the number of tries
@@ -116,12 +115,12 @@ module _ (c : Stack) where
 
   -- a fold that has handed out some values, or a put of an array
   abbrev pub IsStackWork : StackWork → Type 0
-  IsStackWork (Fold op) = (front : Front) × (values : List ℕ) × folding.IsFolding c front values op
-  IsStackWork (Copy op) = (values : List ℕ) × copying.IsCopying c values op
+  IsStackWork (Fold op) = (front : Front) × (values : List ℕ) × bulk.IsFolding c front values op
+  IsStackWork (Copy op) = (values : List ℕ) × bulk.IsCopying c values op
 
   -- it is tried further, from whichever end; a put of an array waits for its array
   abbrev pub StackWorksOn : ℕ → StackWork → StackMade → Type 0
-  StackWorksOn tries (Fold op) made = ((front : Front) (values : List ℕ) → folding.IsFolding c front values op → FoldTried front values (stack.begun_of c op.pass) made)
+  StackWorksOn tries (Fold op) made = ((front : Front) (values : List ℕ) → bulk.IsFolding c front values op → FoldTried front values (stack.begun_of c op.pass) made)
       × WorkedAtMost (bulk_steps tries) (passes.pass_in op.pass) made
   StackWorksOn tries (Copy op) made = made ≡ Waits (Copy op)
 

@@ -2,8 +2,8 @@
 ghost use Rattle.std.specs.Prelude.{◌≡◌, []};
 ghost use Rattle.bounded_model.specs.Stepping.{no_step};
 ghost use Rattle.running.specs.Ops.{underway_of};
-ghost use Rattle.treiber_stack.specs.FoldOp.{IsFolding};
-ghost use Rattle.treiber_stack.specs.Stack.{IsPassOf, machine_of, pass_in};
+ghost use Rattle.treiber_stack.specs.Bulk.{IsFolding};
+ghost use Rattle.treiber_stack.specs.Calls.{IsPassOf, machine_of, pass_in};
 ghost use Rattle.lockfree_c.specs.Bulk.{Continues, PassCopied, PassFolded, front_from};
 ghost use Rattle.lockfree_c.specs.Passes.{IsPass};
 ghost use Rattle.lockfree_c.specs.Stacks.{Copied, stack_reading};

@@ -1,22 +1,16 @@
 -- Where a close goes on.
 use Rattle.std.specs.Prelude.{Option as Slot}
 use Rattle.std.proofs.Common.{◌≡◌, ℕ, Bool, false, List, [], refl, sym, subst}
-use Rattle.queue_machine.specs.declared.lines.Line.{Line}
-use Rattle.queue_machine.specs.declared.lines.Seeking.{Seeking as Aim}
-use Rattle.queue_machine.specs.declared.lines.Seeking.TheVariants.{ToClose}
-use Rattle.queue_table.specs.Lines.{names, next}
-use Rattle.running.specs.Code.{Came, Finding, Leads}
-use Rattle.running.specs.declared.access.Outcome.{Outcome}
-use Rattle.running.specs.declared.code.Next.{Next}
-use Rattle.running.specs.declared.code.Next.TheVariants.{On, Lost, Done}
-use Rattle.ms_queue.specs.declared.calls.closing.CloseAt.{CloseAt}
-use Rattle.ms_queue.specs.declared.calls.closing.CloseAt.TheVariants.{Seeking, Mark}
-use Rattle.ms_queue.specs.declared.call_parts.seeking.Seek.{Seek}
-use Rattle.ms_queue.specs.declared.call_parts.seeking.End.{End}
-use Rattle.ms_queue.specs.declared.call_parts.seeking.End.TheVariants.{Closed as EndClosed, Open}
-use Rattle.ms_queue.specs.Closing.{close_account, close_line}
-use Rattle.ms_queue.specs.Queue.{Queue, Answered, limit_of, machine_of}
-use Rattle.ms_queue.specs.Seeking.{Seeks, SoughtTo}
+use Rattle.ms_queue.specs.Prelude.{Came, Done, Finding, Leads, Line, Lost, Next, On, Outcome, Seeking as Aim, ToClose, names, next}
+use Rattle.ms_queue.specs.declared.code.closing.CloseAt.{CloseAt}
+use Rattle.ms_queue.specs.declared.code.closing.CloseAt.TheVariants.{Seeking, Mark}
+use Rattle.ms_queue.specs.declared.code.seeking.Seek.{Seek}
+use Rattle.ms_queue.specs.declared.code.seeking.End.{End}
+use Rattle.ms_queue.specs.declared.code.seeking.End.TheVariants.{Closed as EndClosed, Open}
+use Rattle.ms_queue.specs.code.Closing.{close_account, close_line}
+use Rattle.ms_queue.specs.Calls.{Queue, limit_of, machine_of}
+use Rattle.ms_queue.specs.code.Machine.{Answered}
+use Rattle.ms_queue.specs.code.Steps.{Seeks, SoughtTo}
 use Rattle.ms_queue.proofs.Seeks.{busy, sought_within}
 
 -- where the code of a close goes on, by the way to the end of the chain

@@ -9,10 +9,10 @@ use Rattle.running.proofs.Crossing.{row_send, lease_send}
 use Rattle.running.specs.contracts.op.Op as op
 use Rattle.queue_machine.specs.contracts.lines.Line as line
 use Rattle.queue_table.specs.contracts.operation.Operation as operation
-use Rattle.ms_queue.specs.contracts.calls.every.QueueAt as every
-use Rattle.ms_queue.specs.contracts.calls.putting.PutAt as put_at
+use Rattle.ms_queue.specs.contracts.code.every.QueueAt as every
+use Rattle.ms_queue.specs.contracts.code.putting.PutAt as put_at
 use Rattle.ms_queue.specs.contracts.life.rest.Rest as rest
-use Rattle.ms_queue.specs.contracts.calls.taking.TakeAt as take_at
+use Rattle.ms_queue.specs.contracts.code.taking.TakeAt as take_at
 
 pub rest_send : (T : RattleType) → IsSend T → IsSend (rest.the_row T)
 rest_send T s = search (sendable, row_send, lease_send, heap_send) depth 20

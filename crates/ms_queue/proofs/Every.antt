@@ -1,28 +1,21 @@
 -- Where the code of a call goes on, by where that of its own kind does.
 use Rattle.std.proofs.Common.{◌≡◌, ℕ, Bool, List, sym, subst}
 use Rattle.std.specs.Prelude.{Option as Slot}
-use Rattle.bounded_model.specs.declared.commands.Reply.{Reply}
 use Rattle.bounded_model.specs.declared.commands.Reply.TheVariants as reply
-use Rattle.queue_machine.specs.declared.lines.Line.{Line}
-use Rattle.queue_table.specs.Lines.{names}
-use Rattle.queue_table.specs.declared.operation.Operation.{Operation}
-use Rattle.running.specs.Code.{Account, Finding, Leads}
-use Rattle.running.specs.declared.access.Outcome.{Outcome}
-use Rattle.running.specs.declared.code.Next.{Next}
-use Rattle.running.specs.declared.code.Next.TheVariants.{On, Lost, Done}
-use Rattle.running.proofs.Leading.{finding}
-use Rattle.ms_queue.specs.Closing.{close_account}
-use Rattle.ms_queue.specs.Every.{every_account, every_line, every_slots}
-use Rattle.ms_queue.specs.Putting.{Answer as PutAnswer, put_account}
-use Rattle.ms_queue.specs.Queue.{Queue, Answered, machine_of}
-use Rattle.ms_queue.specs.Shutting.{shut_account}
-use Rattle.ms_queue.specs.Taking.{Answer as TakeAnswer, take_account}
-use Rattle.ms_queue.specs.declared.calls.closing.CloseAt.{CloseAt}
-use Rattle.ms_queue.specs.declared.calls.every.QueueAt.{QueueAt}
-use Rattle.ms_queue.specs.declared.calls.every.QueueAt.TheVariants.{Put, Take, Close, Shut}
-use Rattle.ms_queue.specs.declared.calls.putting.PutAt.{PutAt}
-use Rattle.ms_queue.specs.declared.calls.shutting.ShutAt.{ShutAt}
-use Rattle.ms_queue.specs.declared.calls.taking.TakeAt.{TakeAt}
+use Rattle.ms_queue.specs.Prelude.{Account, Done, Finding, Leads, Line, Lost, Next, On, Operation, Outcome, Reply, finding, names}
+use Rattle.ms_queue.specs.code.Closing.{close_account}
+use Rattle.ms_queue.specs.code.Every.{every_account, every_line, every_slots}
+use Rattle.ms_queue.specs.code.Putting.{Answer as PutAnswer, put_account}
+use Rattle.ms_queue.specs.Calls.{Queue, machine_of}
+use Rattle.ms_queue.specs.code.Machine.{Answered}
+use Rattle.ms_queue.specs.code.Shutting.{shut_account}
+use Rattle.ms_queue.specs.code.Taking.{Answer as TakeAnswer, take_account}
+use Rattle.ms_queue.specs.declared.code.closing.CloseAt.{CloseAt}
+use Rattle.ms_queue.specs.declared.code.every.QueueAt.{QueueAt}
+use Rattle.ms_queue.specs.declared.code.every.QueueAt.TheVariants.{Put, Take, Close, Shut}
+use Rattle.ms_queue.specs.declared.code.putting.PutAt.{PutAt}
+use Rattle.ms_queue.specs.declared.code.shutting.ShutAt.{ShutAt}
+use Rattle.ms_queue.specs.declared.code.taking.TakeAt.{TakeAt}
 
 -- a call's own next state as one of any call
 abbrev pub every : {T S R : Type 0} → (S → QueueAt T) → (R → Reply T) → Next S (Answered R) → Next (QueueAt T) (Answered (Reply T))

@@ -1,25 +1,20 @@
 -- Some steps of an operation after others, where the operation went on.
 use Rattle.std.proofs.Common.{◌≡◌, ℕ, ◌≤◌, Bool}
-use Rattle.bounded_model.specs.declared.answers.Stepped.{Stepped}
-use Rattle.bounded_model.specs.declared.answers.Stepped.TheVariants.{Again, Done}
-use Rattle.bounded_model.specs.Stepping.{MatchStepped}
-use Rattle.queue_machine.specs.declared.lines.Line.{Line}
-use Rattle.queue_table.specs.declared.operation.Operation.{Operation}
-use Rattle.running.specs.declared.kept.PassWith.{PassWith}
-use Rattle.running.specs.declared.op.Op.{Op}
+use Rattle.bounded_model.specs.declared.answers.Stepped.TheVariants.{Done}
 use Rattle.running.specs.Passes.{Since, pass_in}
-use Rattle.running.specs.declared.passes.Pass.{Pass}
-use Rattle.running.specs.declared.code.Next.{Next}
 use Rattle.running.proofs.Leading.{ran_on}
-use Rattle.ms_queue.specs.declared.calls.counting.LenAt.{LenAt}
-use Rattle.ms_queue.specs.declared.calls.looking.LookAt.{LookAt}
-use Rattle.ms_queue.specs.declared.calls.putting.PutAt.{PutAt}
-use Rattle.ms_queue.specs.declared.calls.taking.TakeAt.{TakeAt}
-use Rattle.ms_queue.specs.Queue.{Queue, Answered, machine_of}
-use Rattle.ms_queue.specs.Counting.{LenRan, len_account}
-use Rattle.ms_queue.specs.Looking.{LookRan, look_account}
-use Rattle.ms_queue.specs.Putting.{Answer as PutAnswer, PutRan, put_account}
-use Rattle.ms_queue.specs.Taking.{Answer as TakeAnswer, TakeRan, take_account}
+use Rattle.ms_queue.specs.Prelude.{Again, Line, MatchStepped, Next, Op, Operation, Pass, PassWith, Stepped}
+use Rattle.ms_queue.specs.declared.code.counting.LenAt.{LenAt}
+use Rattle.ms_queue.specs.declared.code.looking.LookAt.{LookAt}
+use Rattle.ms_queue.specs.declared.code.putting.PutAt.{PutAt}
+use Rattle.ms_queue.specs.declared.code.taking.TakeAt.{TakeAt}
+use Rattle.ms_queue.specs.Calls.{Queue, machine_of}
+use Rattle.ms_queue.specs.code.Machine.{Answered}
+use Rattle.ms_queue.specs.code.Steps.{LenRan, LookRan, PutRan, TakeRan}
+use Rattle.ms_queue.specs.code.Counting.{len_account}
+use Rattle.ms_queue.specs.code.Looking.{look_account}
+use Rattle.ms_queue.specs.code.Putting.{Answer as PutAnswer, put_account}
+use Rattle.ms_queue.specs.code.Taking.{Answer as TakeAnswer, take_account}
 
 module _ {T : Type 0} (c : Queue T) (o : Operation T) (p q t : Pass T (Line T)) where
   pub put_after : Since (machine_of c) p q → (r : Next (PutAt T) (PutAnswer T)) → PutRan c o q t r → PutRan c o p t r

@@ -1,19 +1,13 @@
 -- Where a step of giving back leads.
 use Rattle.std.proofs.Common.{◌≡◌, ℕ, false, refl, List}
 use Rattle.std.specs.Prelude.{Option as Slot}
-use Rattle.queue_machine.specs.declared.lines.Answer.{Answer}
-use Rattle.queue_machine.specs.declared.lines.Line.{Line}
-use Rattle.queue_machine.specs.Machine.{is_idle}
-use Rattle.queue_table.specs.Lines.{next}
-use Rattle.running.specs.Code.{Finding}
-use Rattle.running.specs.declared.access.Outcome.{Outcome}
-use Rattle.running.specs.declared.code.Next.{Next}
-use Rattle.running.proofs.Leading.{finding}
-use Rattle.ms_queue.specs.declared.call_parts.giving.Held.{Held}
-use Rattle.ms_queue.specs.declared.call_parts.giving.Give.{Give}
-use Rattle.ms_queue.specs.declared.call_parts.giving.Give.TheVariants.{LoadNodes}
-use Rattle.ms_queue.specs.Queue.{Queue, limit_of, machine_of}
-use Rattle.ms_queue.specs.Giving.{give_line, held_slot, Gives, GaveTo}
+use Rattle.ms_queue.specs.Prelude.{Answer, Finding, Line, Next, Outcome, finding, is_idle, next}
+use Rattle.ms_queue.specs.declared.code.giving.Held.{Held}
+use Rattle.ms_queue.specs.declared.code.giving.Give.{Give}
+use Rattle.ms_queue.specs.declared.code.giving.Give.TheVariants.{LoadNodes}
+use Rattle.ms_queue.specs.Calls.{Queue, limit_of, machine_of}
+use Rattle.ms_queue.specs.code.Giving.{give_line, held_slot, Gives}
+use Rattle.ms_queue.specs.code.Steps.{GaveTo}
 
 pub busy_giving : {T : Type 0} (a : Answer T) (held : Held) (at : Give) → is_idle (give_line a held at) ≡ false
 busy_giving a held LoadNodes = refl

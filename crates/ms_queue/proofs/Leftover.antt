@@ -6,12 +6,8 @@ use mathlib.Core.Option.{Option, none, some, some-injective, some-ne-none}
 use lib.ListN.{get_elem?}
 use Rattle.atomic_table.specs.Table.{Final, Seen}
 use Rattle.atomic_table.proofs.Lists.{set_else, set_again}
-use Rattle.tagged_index.specs.Fields.{index_of}
-use Rattle.tagged_index.specs.declared.word.TheConstants.{NULL}
-use Rattle.bounded_model.specs.declared.views.RootView.{RootView}
 use Rattle.bounded_model.specs.Machine.{state, without_first}
 use Rattle.bounded_model.specs.Laws.{IsSound, Leaves}
-use Rattle.machine.specs.declared.seats.View.{View}
 use Rattle.machine.specs.declared.seats.View.TheVariants.{AtRoot}
 use Rattle.machine.specs.Words.{times, Leads}
 use Rattle.machine.specs.Chains.{HasValues}
@@ -20,15 +16,14 @@ use Rattle.machine.proofs.Tests.{cases}
 use Rattle.machine.proofs.Lists.{times_here, not_there}
 use Rattle.machine.proofs.Chains.{values_frame, times_rest}
 use Rattle.machine.proofs.SeatedEnds.{leaves}
-use Rattle.queue_machine.specs.declared.lines.Line.{Line}
 use Rattle.queue_machine.specs.Answers.{shape}
 use Rattle.queue_machine.proofs.Chain.{head_in}
 use Rattle.queue_machine.proofs.Linked.{head_below, node_below}
 use Rattle.running.specs.Rule.{Rule}
-use Rattle.queue_table.specs.Layout.{head_at, next_at}
+use Rattle.queue_table.specs.Layout.{head_at}
 use Rattle.queue_table.specs.Memories.{at_home}
-use Rattle.queue_table.proofs.Laws.{queue}
-use Rattle.ms_queue.specs.Left.{node_behind, cell_of, count_full, slot_of, in_front, values_from, left_along}
+use Rattle.ms_queue.specs.Prelude.{Line, NULL, RootView, View, index_of, next_at, queue}
+use Rattle.ms_queue.specs.code.Left.{node_behind, cell_of, count_full, slot_of, in_front, values_from, left_along}
 
 pub word_at : (words : List ℕ) (i n : ℕ) → get_elem? words i ≡ some n → slice_index words i ≡ n
 word_at [] i n e = absurd (some-ne-none n (sym e))

@@ -2,33 +2,23 @@
 use Rattle.std.proofs.Common.{◌≡◌, ℕ, List, [], ◌∷◌, refl, sym, ap, ◌∙◌, subst}
 use Rattle.std.specs.Prelude.{Option as Slot, Some, None, Err}
 use Rattle.core.specs.declared.snapshot.Snapshot.{Snapshot}
-use Rattle.atomic_table.specs.Table.{rest}
-use Rattle.bounded_model.specs.declared.answers.PutRefused.{PutRefused}
-use Rattle.bounded_model.specs.declared.answers.PutRefused.TheVariants.{Full, Closed}
 use Rattle.queue_machine.specs.declared.lines.Answer as lines
-use Rattle.queue_machine.specs.declared.lines.Answer.TheVariants.{Put as AnswerPut}
-use Rattle.queue_machine.specs.declared.lines.Seeking.{Seeking as Aim}
-use Rattle.queue_machine.specs.declared.lines.Seeking.TheVariants.{ToLink, ToRefuse}
-use Rattle.queue_machine.specs.declared.lines.Line.{Line}
 use Rattle.queue_machine.specs.Machine.{gives}
-use Rattle.queue_table.specs.Lines.{names, next}
-use Rattle.running.specs.Code.{Came, Finding, Leads}
-use Rattle.running.specs.declared.access.Outcome.{Outcome}
-use Rattle.running.specs.declared.code.Next.{Next as Onward}
-use Rattle.running.specs.declared.code.Next.TheVariants.{On, Lost, Done as Answered}
-use Rattle.ms_queue.specs.declared.call_parts.giving.Give.{Give}
-use Rattle.ms_queue.specs.declared.call_parts.giving.Give.TheVariants.{LoadNodes}
-use Rattle.ms_queue.specs.declared.call_parts.giving.Held.{Held}
-use Rattle.ms_queue.specs.declared.calls.putting.PutAt.{PutAt}
-use Rattle.ms_queue.specs.declared.calls.putting.PutAt.TheVariants.{Refusing, Seeking, LinkNext, GiveBack}
-use Rattle.ms_queue.specs.declared.call_parts.seeking.Seek.{Seek}
-use Rattle.ms_queue.specs.declared.call_parts.seeking.End.{End}
-use Rattle.ms_queue.specs.declared.call_parts.seeking.End.TheVariants.{Closed as AtMark, Open as AtNull}
-use Rattle.ms_queue.specs.Giving.{AreHeld, Gives, GaveTo}
-use Rattle.ms_queue.specs.Calls.{put_of}
-use Rattle.ms_queue.specs.Putting.{Answer, put_account, linking, refused, put_line, put_slots, full_slot, HasReadToPut}
-use Rattle.ms_queue.specs.Queue.{Queue, room_of, limit_of, machine_of}
-use Rattle.ms_queue.specs.Seeking.{Seeks, SoughtTo}
+use Rattle.ms_queue.specs.Prelude.{AnswerPut, Came, Closed, Done as Answered, Finding, Full, Leads, Line, Lost, Next as Onward, On, Outcome}
+use Rattle.ms_queue.specs.Prelude.{PutRefused, Seeking as Aim, ToLink, ToRefuse, names, next, rest}
+use Rattle.ms_queue.specs.declared.code.giving.Give.{Give}
+use Rattle.ms_queue.specs.declared.code.giving.Give.TheVariants.{LoadNodes}
+use Rattle.ms_queue.specs.declared.code.giving.Held.{Held}
+use Rattle.ms_queue.specs.declared.code.putting.PutAt.{PutAt}
+use Rattle.ms_queue.specs.declared.code.putting.PutAt.TheVariants.{Refusing, Seeking, LinkNext, GiveBack}
+use Rattle.ms_queue.specs.declared.code.seeking.Seek.{Seek}
+use Rattle.ms_queue.specs.declared.code.seeking.End.{End}
+use Rattle.ms_queue.specs.declared.code.seeking.End.TheVariants.{Closed as AtMark, Open as AtNull}
+use Rattle.ms_queue.specs.code.Giving.{AreHeld, Gives}
+use Rattle.ms_queue.specs.code.Steps.{GaveTo, Seeks, SoughtTo}
+use Rattle.ms_queue.specs.code.Machine.{put_of}
+use Rattle.ms_queue.specs.code.Putting.{Answer, put_account, linking, refused, put_line, put_slots, full_slot, HasReadToPut}
+use Rattle.ms_queue.specs.Calls.{Queue, room_of, limit_of, machine_of}
 use Rattle.ms_queue.proofs.Gives.{busy_giving, gave_within}
 use Rattle.ms_queue.proofs.Seeks.{busy, sought_within}
 

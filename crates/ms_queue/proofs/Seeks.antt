@@ -1,19 +1,13 @@
 -- Where a step on the way to the end of the chain leads.
 use Rattle.std.specs.Prelude.{Option as Slot}
 use Rattle.std.proofs.Common.{◌≡◌, ℕ, false, List, refl}
-use Rattle.queue_machine.specs.declared.lines.Seeking.{Seeking}
-use Rattle.queue_machine.specs.declared.lines.Line.{Line}
-use Rattle.queue_machine.specs.Machine.{is_idle}
-use Rattle.queue_table.specs.Lines.{next}
-use Rattle.running.specs.Code.{Came, Finding}
-use Rattle.running.specs.declared.access.Outcome.{Outcome}
-use Rattle.running.specs.declared.code.Next.{Next}
-use Rattle.running.proofs.Leading.{finding}
-use Rattle.ms_queue.specs.declared.call_parts.seeking.Seek.{Seek}
-use Rattle.ms_queue.specs.declared.call_parts.seeking.Seek.TheVariants.{LoadTail as SeekTail}
-use Rattle.ms_queue.specs.declared.call_parts.seeking.End.{End}
-use Rattle.ms_queue.specs.Queue.{Queue, limit_of, machine_of}
-use Rattle.ms_queue.specs.Seeking.{seek_line, Seeks, SoughtTo}
+use Rattle.ms_queue.specs.Prelude.{Came, Finding, Line, Next, Outcome, Seeking, finding, is_idle, next}
+use Rattle.ms_queue.specs.declared.code.seeking.Seek.{Seek}
+use Rattle.ms_queue.specs.declared.code.seeking.Seek.TheVariants.{LoadTail as SeekTail}
+use Rattle.ms_queue.specs.declared.code.seeking.End.{End}
+use Rattle.ms_queue.specs.Calls.{Queue, limit_of, machine_of}
+use Rattle.ms_queue.specs.code.Seeking.{seek_line}
+use Rattle.ms_queue.specs.code.Steps.{Seeks, SoughtTo}
 
 pub busy : {T : Type 0} (s : Seeking T) (at : Seek) → is_idle (seek_line s at) ≡ false
 busy s SeekTail = refl

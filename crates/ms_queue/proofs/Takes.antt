@@ -3,30 +3,24 @@ use Rattle.std.proofs.Common.{◌≡◌, ℕ, ◌+◌, ◌<◌, Bool, true, fals
 use Rattle.std.specs.Prelude.{map, Option as Slot, Some, None, Ok}
 use mathlib.Core.Bool.{not}
 use mathlib.Core.Option.{some}
-use Rattle.atomic_table.specs.Table.{rest}
-use Rattle.tagged_index.specs.Fields.{fields_of, index_of, tag_of}
 use Rattle.machine.specs.Words.{Tagged}
 use Rattle.machine.proofs.Tests.{same-is}
-use Rattle.queue_machine.specs.declared.lines.Answer.TheVariants.{Take as AnswerTake}
-use Rattle.queue_machine.specs.declared.lines.Line.{Line}
-use Rattle.queue_machine.specs.declared.lines.Line.TheVariants.{Idle, LoadHead, LoadNodesToGive}
+use Rattle.queue_machine.specs.declared.lines.Line.TheVariants.{Idle}
 use Rattle.queue_machine.specs.declared.lines.Answer as lines
 use Rattle.queue_machine.specs.Machine.{took as took_by}
-use Rattle.queue_table.specs.Lines.{names, next}
-use Rattle.running.specs.Code.{Came, Finding, Leads}
-use Rattle.running.specs.declared.access.Outcome.{Outcome}
-use Rattle.running.specs.declared.code.Next.{Next}
-use Rattle.running.specs.declared.code.Next.TheVariants.{On, Lost, Done}
 use Rattle.running.specs.Tables.{line_of, values}
-use Rattle.ms_queue.specs.declared.call_parts.giving.Give.{Give}
-use Rattle.ms_queue.specs.declared.call_parts.giving.Give.TheVariants.{LoadNodes}
-use Rattle.ms_queue.specs.declared.call_parts.giving.Held.{Held}
-use Rattle.ms_queue.specs.declared.calls.taking.Taken.{Taken}
-use Rattle.ms_queue.specs.declared.calls.taking.TakeAt.{TakeAt}
-use Rattle.ms_queue.specs.declared.calls.taking.TakeAt.TheVariants.{TakeHead as TakeFirstNode, GiveBack}
-use Rattle.ms_queue.specs.Giving.{AreHeld, Gives, GaveTo}
-use Rattle.ms_queue.specs.Queue.{Queue, room_of, limit_of, machine_of}
-use Rattle.ms_queue.specs.Taking.{Answer, take_account, took, take_line, take_slots, HasReadToTake}
+use Rattle.ms_queue.specs.Prelude.{AnswerTake, Came, Done, Finding, Leads, Line, LoadHead, LoadNodesToGive, Lost, Next, On, Outcome, fields_of}
+use Rattle.ms_queue.specs.Prelude.{index_of, names, next, rest, tag_of}
+use Rattle.ms_queue.specs.declared.code.giving.Give.{Give}
+use Rattle.ms_queue.specs.declared.code.giving.Give.TheVariants.{LoadNodes}
+use Rattle.ms_queue.specs.declared.code.giving.Held.{Held}
+use Rattle.ms_queue.specs.declared.code.taking.Taken.{Taken}
+use Rattle.ms_queue.specs.declared.code.taking.TakeAt.{TakeAt}
+use Rattle.ms_queue.specs.declared.code.taking.TakeAt.TheVariants.{TakeHead as TakeFirstNode, GiveBack}
+use Rattle.ms_queue.specs.code.Giving.{AreHeld, Gives}
+use Rattle.ms_queue.specs.code.Steps.{GaveTo}
+use Rattle.ms_queue.specs.Calls.{Queue, room_of, limit_of, machine_of}
+use Rattle.ms_queue.specs.code.Taking.{Answer, take_account, took, take_line, take_slots, HasReadToTake}
 use Rattle.ms_queue.proofs.Gives.{busy_giving, gave_within}
 
 module _ {T : Type 0} where

@@ -9,7 +9,7 @@ impl<T: Drop + Send> Container<T> for Queue<T> {
     ghost use Rattle.bounded_model.proofs.Passes.{most_passes};
     ghost use Rattle.bounded_model.specs.declared.history.Order.TheVariants.{Fifo};
     ghost use Rattle.running.specs.Passes.{told_in};
-    ghost use Rattle.ms_queue.specs.Queue.{IsNoteOf, IsPassOf, IsRootOf, pass_in, root_in, shape_of};
+    ghost use Rattle.ms_queue.specs.Calls.{IsNoteOf, IsPassOf, IsRootOf, pass_in, root_in, shape_of};
 
     type Root = Root<T>;
 

@@ -15,24 +15,24 @@
 //! - for a bounded number of steps, after which the caller can continue it.
 #![tactic(auto)]
 
-mod call_parts;
 mod calls;
+mod code;
 mod container;
-mod fast_paths;
 mod life;
 mod naming;
 mod places;
 mod rule;
 mod stepwise;
 
-pub use calls::closing::CloseOp;
-pub use calls::counting::LenOp;
-pub use calls::every::{AnyOp, QueueAt};
-pub use calls::gauging::{Gauge, GaugeOp};
-pub use calls::looking::LookOp;
-pub use calls::putting::PutOp;
-pub use calls::shutting::ShutOp;
-pub use calls::taking::TakeOp;
+pub use code::closing::CloseOp;
+pub use code::counting::LenOp;
+pub use code::every::{AnyOp, QueueAt};
+pub use calls::gauging::Gauge;
+pub use code::gauging::GaugeOp;
+pub use code::looking::LookOp;
+pub use code::putting::PutOp;
+pub use code::shutting::ShutOp;
+pub use code::taking::TakeOp;
 pub use life::queue::{Answered, Note, Pass, Queue, Root};
 pub use life::rest::Rest;
 pub use places::queue_places;

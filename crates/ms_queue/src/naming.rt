@@ -1,23 +1,23 @@
 //! The names of the next steps of operations under way.
 ghost use Rattle.queue_machine.specs.declared.lines.Answer.{Answer};
 ghost use Rattle.queue_machine.specs.declared.lines.Seeking.{Seeking};
-ghost use Rattle.ms_queue.specs.Closing.{close_line};
-ghost use Rattle.ms_queue.specs.Giving.{give_line};
-ghost use Rattle.ms_queue.specs.Looking.{look_line};
-ghost use Rattle.ms_queue.specs.Naming.{IsNextStep};
-ghost use Rattle.ms_queue.specs.Putting.{put_line};
-ghost use Rattle.ms_queue.specs.Seeking.{seek_line};
-ghost use Rattle.ms_queue.specs.Shutting.{shut_line};
-ghost use Rattle.ms_queue.specs.Taking.{take_line};
+ghost use Rattle.ms_queue.specs.code.Closing.{close_line};
+ghost use Rattle.ms_queue.specs.code.Giving.{give_line};
+ghost use Rattle.ms_queue.specs.code.Looking.{look_line};
+ghost use Rattle.ms_queue.specs.code.Naming.{IsNextStep};
+ghost use Rattle.ms_queue.specs.code.Putting.{put_line};
+ghost use Rattle.ms_queue.specs.code.Seeking.{seek_line};
+ghost use Rattle.ms_queue.specs.code.Shutting.{shut_line};
+ghost use Rattle.ms_queue.specs.code.Taking.{take_line};
 
-use crate::call_parts::giving::{Give, Held};
-use crate::call_parts::seeking::Seek;
-use crate::calls::closing::CloseAt;
-use crate::calls::every::{AnyOp, QueueAt};
-use crate::calls::looking::LookAt;
-use crate::calls::putting::PutAt;
-use crate::calls::shutting::ShutAt;
-use crate::calls::taking::TakeAt;
+use crate::code::giving::{Give, Held};
+use crate::code::seeking::Seek;
+use crate::code::closing::CloseAt;
+use crate::code::every::{AnyOp, QueueAt};
+use crate::code::looking::LookAt;
+use crate::code::putting::PutAt;
+use crate::code::shutting::ShutAt;
+use crate::code::taking::TakeAt;
 use crate::life::queue::Queue;
 use step_names::{Location, Named, StepName};
 
@@ -121,7 +121,7 @@ fn look_name<T>(at: &LookAt) -> StepName
 }
 
 impl<T: Drop + Send> Named<T> for Queue<T> {
-    ghost use Rattle.ms_queue.specs.Naming.{IsStep};
+    ghost use Rattle.ms_queue.specs.code.Naming.{IsStep};
 
     ghost is_step = { IsStep };
 

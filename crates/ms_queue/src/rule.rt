@@ -12,7 +12,7 @@ pub struct Queued {
 
 impl<T> Machine<T, Line<T>, Operation<T>> for Queued {
     ghost use Rattle.queue_table.specs.Lines.{names};
-    ghost use Rattle.ms_queue.specs.Limits.{machine_at};
+    ghost use Rattle.ms_queue.specs.code.Machine.{machine_at};
 
     ghost names = { names };
 

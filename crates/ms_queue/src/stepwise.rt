@@ -1,16 +1,16 @@
 //! A queue's calls by single steps. One operation makes every call.
 ghost use Rattle.std.specs.Prelude.{◌≡◌};
 ghost use Rattle.bounded_model.specs.Stepping.{no_step};
-ghost use Rattle.ms_queue.specs.Queue.{IsPassOf, pass_in};
-ghost use Rattle.ms_queue.specs.Stepwise.{IsMakingCall, making};
+ghost use Rattle.ms_queue.specs.Calls.{IsPassOf, pass_in, IsMakingCall, making};
 
-use crate::call_parts::seeking::Seek;
-use crate::calls::closing::CloseAt;
-use crate::calls::every::{AnyOp, QueueAt};
-use crate::calls::looking::LookAt;
-use crate::calls::putting::{PutAt, put_operation};
-use crate::calls::shutting::ShutAt;
-use crate::calls::taking::TakeAt;
+use crate::code::seeking::Seek;
+use crate::code::closing::CloseAt;
+use crate::code::every::{AnyOp, QueueAt};
+use crate::code::looking::LookAt;
+use crate::code::putting::PutAt;
+use crate::calls::putting::put_operation;
+use crate::code::shutting::ShutAt;
+use crate::code::taking::TakeAt;
 use crate::life::queue::{Pass, Queue};
 use bounded_model::{Command, Reply, Stepped, Stepwise};
 use queue_table::Operation;
@@ -49,7 +49,7 @@ impl<T> Queue<T> {
 }
 
 impl<T: Drop + Send> Stepwise<T> for Queue<T> {
-    ghost use Rattle.ms_queue.specs.Stepwise.{IsMakingCall, making};
+    ghost use Rattle.ms_queue.specs.Calls.{IsMakingCall, making};
 
     type Op = AnyOp<T>;
 

@@ -1,10 +1,7 @@
 //! Counts of a queue: in each schedule beside a put or a take by single steps, and beside threads.
 
 ghost use Rattle.std.specs.Prelude.{ℕ};
-ghost use Rattle.ms_queue.specs.Counting.{IsCounting};
-ghost use Rattle.ms_queue.specs.Putting.{IsPutting};
-ghost use Rattle.ms_queue.specs.Queue.{IsPassOf};
-ghost use Rattle.ms_queue.specs.Taking.{IsTaking};
+ghost use Rattle.ms_queue.specs.Calls.{IsCounting, IsPutting, IsPassOf, IsTaking};
 
 use bounded_model::{Container, PutRefused, Stepped, TakeRefused};
 use ms_queue::{LenOp, Pass, PutOp, Queue, TakeOp};

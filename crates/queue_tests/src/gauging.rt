@@ -1,6 +1,6 @@
 //! Gauges of a queue.
 
-ghost use Rattle.ms_queue.specs.Gauging.{IsGauging};
+ghost use Rattle.ms_queue.specs.Calls.{IsGauging};
 
 use bounded_model::{Container, Stepped};
 use ms_queue::{Gauge, GaugeOp, Queue};

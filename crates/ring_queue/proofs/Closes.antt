@@ -1,28 +1,19 @@
 -- Where a close or a shut goes on.
 use Rattle.std.proofs.Common.{◌≡◌, ℕ, ◌*◌, Bool, true, false, cond, List, [], refl, sym, ap, ◌∙◌, subst}
 use Rattle.std.specs.Prelude.{Option as Slot}
-use Rattle.ring_machine.specs.declared.lines.Line.{Line}
-use Rattle.ring_machine.specs.Machine.{ends, is_idle}
-use Rattle.running.specs.Code.{Came, Leads}
-use Rattle.running.specs.declared.access.Outcome.{Outcome}
-use Rattle.running.specs.declared.code.Next.{Next}
-use Rattle.running.specs.declared.code.Next.TheVariants.{On, Lost, Done}
-use Rattle.ring_table.specs.Seats.{names}
-use Rattle.ring_table.specs.declared.line.SeatLine.{SeatLine}
-use Rattle.ring_table.specs.declared.line.SeatLine.TheVariants.{At}
-use Rattle.ring_table.specs.declared.operation.Operation.{Operation}
-use Rattle.ring_queue.specs.declared.calls.closing.Mark.{Mark}
-use Rattle.ring_queue.specs.declared.calls.closing.Mark.TheVariants.{Closed, Shut}
-use Rattle.ring_queue.specs.declared.calls.closing.MarkAt.{MarkAt}
-use Rattle.ring_queue.specs.declared.calls.closing.MarkAt.TheVariants.{Walking, Setting}
-use Rattle.ring_queue.specs.Ring.{Answered}
-use Rattle.ring_queue.specs.Ring.{RingQueue}
-use Rattle.ring_queue.specs.declared.call_parts.walking.Found.{Found}
-use Rattle.ring_queue.specs.declared.call_parts.walking.WalkAt.{WalkAt}
-use Rattle.ring_queue.specs.declared.call_parts.walking.WalkAt.TheVariants.{LoadSlot}
-use Rattle.ring_queue.specs.Closing.{HasReadToMark, aim_of, answer_of, is_set, mark_account, mark_line, mark_of_step, operation_of}
-use Rattle.ring_queue.specs.Ring.{room_of, laps_of, machine_of}
-use Rattle.ring_queue.specs.Walking.{end_line, full_of, walk_line, IsEnd, IsRead, WalkedTo}
+use Rattle.ring_queue.specs.Prelude.{At, Came, Done, Leads, Line, Lost, Next, On, Operation, Outcome, SeatLine, ends, is_idle, names}
+use Rattle.ring_queue.specs.declared.code.closing.Mark.{Mark}
+use Rattle.ring_queue.specs.declared.code.closing.Mark.TheVariants.{Closed, Shut}
+use Rattle.ring_queue.specs.declared.code.closing.MarkAt.{MarkAt}
+use Rattle.ring_queue.specs.declared.code.closing.MarkAt.TheVariants.{Walking, Setting}
+use Rattle.ring_queue.specs.code.Machine.{Answered}
+use Rattle.ring_queue.specs.Calls.{RingQueue, room_of, laps_of, machine_of}
+use Rattle.ring_queue.specs.declared.code.walking.Found.{Found}
+use Rattle.ring_queue.specs.declared.code.walking.WalkAt.{WalkAt}
+use Rattle.ring_queue.specs.declared.code.walking.WalkAt.TheVariants.{LoadSlot}
+use Rattle.ring_queue.specs.code.Closing.{HasReadToMark, aim_of, answer_of, is_set, mark_account, mark_line, mark_of_step, operation_of}
+use Rattle.ring_queue.specs.code.Walking.{end_line, full_of, walk_line, IsEnd, IsRead}
+use Rattle.ring_queue.specs.code.Steps.{WalkedTo}
 use Rattle.ring_queue.proofs.Walks.{busy, LeadsTo, walk_goes, walk_ends}
 
 module _ {T : Type 0} where

@@ -1,24 +1,17 @@
 -- Where a count goes on.
 use Rattle.std.proofs.Common.{◌≡◌, ℕ, List, [], refl, ap, subst}
 use Rattle.std.specs.Prelude.{Option as Slot}
-use Rattle.tagged_index.specs.Fields.{fields_of}
-use Rattle.ring_machine.specs.declared.lines.Back.TheVariants.{ToCount}
-use Rattle.ring_machine.specs.declared.lines.Front.TheVariants.{ToCount as ToCountFrom}
-use Rattle.running.specs.Code.{Came}
-use Rattle.running.specs.declared.access.Outcome.{Outcome}
-use Rattle.running.specs.declared.code.Next.{Next}
-use Rattle.running.specs.declared.code.Next.TheVariants.{On, Done}
-use Rattle.ring_table.specs.declared.line.SeatLine.TheVariants.{At}
-use Rattle.ring_queue.specs.declared.calls.counting.LenAt.{LenAt}
-use Rattle.ring_queue.specs.declared.calls.counting.LenAt.TheVariants.{ToFront, ToBack, CheckFront}
-use Rattle.ring_queue.specs.Ring.{Answered}
-use Rattle.ring_queue.specs.Ring.{RingQueue}
-use Rattle.ring_queue.specs.declared.call_parts.walking.Found.{Found}
-use Rattle.ring_queue.specs.declared.call_parts.walking.WalkAt.{WalkAt}
-use Rattle.ring_queue.specs.declared.call_parts.walking.WalkAt.TheVariants.{LoadHint}
-use Rattle.ring_queue.specs.Counting.{len_account, len_line, HasReadToCount}
-use Rattle.ring_queue.specs.Ring.{room_of, machine_of}
-use Rattle.ring_queue.specs.Walking.{to_back, to_front, WalkedTo}
+use Rattle.ring_queue.specs.Prelude.{At, Came, Done, Next, On, Outcome, ToCount, ToCountFrom, fields_of}
+use Rattle.ring_queue.specs.declared.code.counting.LenAt.{LenAt}
+use Rattle.ring_queue.specs.declared.code.counting.LenAt.TheVariants.{ToFront, ToBack, CheckFront}
+use Rattle.ring_queue.specs.code.Machine.{Answered}
+use Rattle.ring_queue.specs.Calls.{RingQueue, room_of, machine_of}
+use Rattle.ring_queue.specs.declared.code.walking.Found.{Found}
+use Rattle.ring_queue.specs.declared.code.walking.WalkAt.{WalkAt}
+use Rattle.ring_queue.specs.declared.code.walking.WalkAt.TheVariants.{LoadHint}
+use Rattle.ring_queue.specs.code.Counting.{len_account, len_line, HasReadToCount}
+use Rattle.ring_queue.specs.code.Walking.{to_back, to_front}
+use Rattle.ring_queue.specs.code.Steps.{WalkedTo}
 use Rattle.ring_queue.proofs.Walks.{busy, LeadsTo, walk_goes, walk_ends}
 
 module _ {T : Type 0} (c : RingQueue T) (s : LenAt) (at : WalkAt) (r : Outcome) (has : List (ℕ × Slot T)) (came : Came (machine_of c).core (At (len_line s)) r [] has) where

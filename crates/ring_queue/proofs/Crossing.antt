@@ -9,14 +9,14 @@ use Rattle.running.proofs.Crossing.{row_send, lease_send}
 use Rattle.running.specs.contracts.op.Op as op
 use Rattle.ring_table.specs.contracts.line.SeatLine as line
 use Rattle.ring_table.specs.contracts.operation.Operation as operation
-use Rattle.ring_queue.specs.contracts.call_parts.walk.Walk as walk
-use Rattle.ring_queue.specs.contracts.call_parts.walking.Found as found
-use Rattle.ring_queue.specs.contracts.calls.every.RingAt as every
-use Rattle.ring_queue.specs.contracts.calls.closing.MarkAt as mark
-use Rattle.ring_queue.specs.contracts.calls.looking.LookAt as look
-use Rattle.ring_queue.specs.contracts.calls.putting.PutAt as put
+use Rattle.ring_queue.specs.contracts.code.walk.Walk as walk
+use Rattle.ring_queue.specs.contracts.code.walking.Found as found
+use Rattle.ring_queue.specs.contracts.code.every.RingAt as every
+use Rattle.ring_queue.specs.contracts.code.closing.MarkAt as mark
+use Rattle.ring_queue.specs.contracts.code.looking.LookAt as look
+use Rattle.ring_queue.specs.contracts.code.putting.PutAt as put
 use Rattle.ring_queue.specs.contracts.life.rest.Rest as rest
-use Rattle.ring_queue.specs.contracts.calls.taking.TakeAt as take
+use Rattle.ring_queue.specs.contracts.code.taking.TakeAt as take
 
 pub rest_send : (T : RattleType) → IsSend T → IsSend (rest.the_row T)
 rest_send T s = search (sendable, row_send, lease_send, heap_send) depth 20

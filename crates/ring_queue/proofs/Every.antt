@@ -1,32 +1,23 @@
 -- Where the code of a call goes on, by where that of its own kind does.
 use Rattle.std.proofs.Common.{◌≡◌, ℕ, Bool, List, refl, sym, ap, ◌∙◌, subst}
 use Rattle.std.specs.Prelude.{Option as Slot}
-use Rattle.bounded_model.specs.declared.commands.Reply.{Reply}
 use Rattle.bounded_model.specs.declared.commands.Reply.TheVariants as reply
-use Rattle.ring_table.specs.declared.line.SeatLine.{SeatLine}
-use Rattle.ring_table.specs.declared.line.SeatLine.TheVariants.{At}
-use Rattle.ring_machine.specs.Machine.{ends}
-use Rattle.ring_table.specs.Seats.{names}
-use Rattle.ring_table.specs.declared.operation.Operation.{Operation}
-use Rattle.running.specs.Code.{Account, Finding, Leads}
-use Rattle.running.specs.declared.access.Outcome.{Outcome}
-use Rattle.running.specs.declared.code.Next.{Next}
-use Rattle.running.specs.declared.code.Next.TheVariants.{On, Lost, Done}
-use Rattle.running.proofs.Leading.{finding}
-use Rattle.ring_queue.specs.Closing.{answer_of, mark_account, mark_of_step, mark_reply, operation_of}
-use Rattle.ring_queue.specs.Every.{every_account, every_answer, every_line, every_slots}
-use Rattle.ring_queue.specs.Looking.{look_account}
-use Rattle.ring_queue.specs.Putting.{Answer as PutAnswer, put_account}
-use Rattle.ring_queue.specs.Ring.{RingQueue, Answered, machine_of, room_of}
-use Rattle.ring_queue.specs.Taking.{Answer as TakeAnswer, take_account}
-use Rattle.ring_queue.specs.declared.calls.closing.Mark.{Mark}
-use Rattle.ring_queue.specs.declared.calls.closing.Mark.TheVariants.{Closed, Shut}
-use Rattle.ring_queue.specs.declared.calls.closing.MarkAt.{MarkAt}
-use Rattle.ring_queue.specs.declared.calls.every.RingAt.{RingAt}
-use Rattle.ring_queue.specs.declared.calls.every.RingAt.TheVariants.{Put, Take, Mark as Mark', Look}
-use Rattle.ring_queue.specs.declared.calls.looking.LookAt.{LookAt}
-use Rattle.ring_queue.specs.declared.calls.putting.PutAt.{PutAt}
-use Rattle.ring_queue.specs.declared.calls.taking.TakeAt.{TakeAt}
+use Rattle.ring_queue.specs.Prelude.{Account, At, Done, Finding, Leads, Lost, Next, On, Operation, Outcome, Reply, SeatLine, ends, finding, names}
+use Rattle.ring_queue.specs.code.Closing.{answer_of, mark_account, mark_of_step, mark_reply, operation_of}
+use Rattle.ring_queue.specs.code.Every.{every_account, every_answer, every_line, every_slots}
+use Rattle.ring_queue.specs.code.Looking.{look_account}
+use Rattle.ring_queue.specs.code.Putting.{Answer as PutAnswer, put_account}
+use Rattle.ring_queue.specs.Calls.{RingQueue, machine_of, room_of}
+use Rattle.ring_queue.specs.code.Machine.{Answered}
+use Rattle.ring_queue.specs.code.Taking.{Answer as TakeAnswer, take_account}
+use Rattle.ring_queue.specs.declared.code.closing.Mark.{Mark}
+use Rattle.ring_queue.specs.declared.code.closing.Mark.TheVariants.{Closed, Shut}
+use Rattle.ring_queue.specs.declared.code.closing.MarkAt.{MarkAt}
+use Rattle.ring_queue.specs.declared.code.every.RingAt.{RingAt}
+use Rattle.ring_queue.specs.declared.code.every.RingAt.TheVariants.{Put, Take, Mark as Mark', Look}
+use Rattle.ring_queue.specs.declared.code.looking.LookAt.{LookAt}
+use Rattle.ring_queue.specs.declared.code.putting.PutAt.{PutAt}
+use Rattle.ring_queue.specs.declared.code.taking.TakeAt.{TakeAt}
 
 -- a call's own next state as one of any call
 abbrev pub every : {T S R : Type 0} → (S → RingAt T) → (R → Reply T) → Next S (Answered R) → Next (RingAt T) (Answered (Reply T))

@@ -1,25 +1,18 @@
 -- Some steps of an operation after others, if the operation went on.
 use Rattle.std.proofs.Common.{◌≡◌, ℕ, ◌≤◌, Bool}
-use Rattle.bounded_model.specs.declared.answers.Stepped.{Stepped}
-use Rattle.bounded_model.specs.declared.answers.Stepped.TheVariants.{Again, Done}
-use Rattle.bounded_model.specs.Stepping.{MatchStepped}
-use Rattle.ring_table.specs.declared.line.SeatLine.{SeatLine}
-use Rattle.ring_table.specs.declared.operation.Operation.{Operation}
-use Rattle.running.specs.declared.kept.PassWith.{PassWith}
-use Rattle.running.specs.declared.op.Op.{Op}
+use Rattle.bounded_model.specs.declared.answers.Stepped.TheVariants.{Done}
 use Rattle.running.specs.Passes.{Since, pass_in}
-use Rattle.running.specs.declared.passes.Pass.{Pass}
-use Rattle.running.specs.declared.code.Next.{Next}
 use Rattle.running.proofs.Leading.{ran_on}
-use Rattle.ring_queue.specs.declared.calls.looking.LookAt.{LookAt}
-use Rattle.ring_queue.specs.Ring.{Answered}
-use Rattle.ring_queue.specs.Ring.{RingQueue}
-use Rattle.ring_queue.specs.declared.calls.putting.PutAt.{PutAt}
-use Rattle.ring_queue.specs.declared.calls.taking.TakeAt.{TakeAt}
-use Rattle.ring_queue.specs.Ring.{machine_of}
-use Rattle.ring_queue.specs.Looking.{LookRan, look_account}
-use Rattle.ring_queue.specs.Putting.{Answer as PutAnswer, PutRan, put_account}
-use Rattle.ring_queue.specs.Taking.{Answer as TakeAnswer, TakeRan, take_account}
+use Rattle.ring_queue.specs.Prelude.{Again, MatchStepped, Next, Op, Operation, Pass, PassWith, SeatLine, Stepped}
+use Rattle.ring_queue.specs.declared.code.looking.LookAt.{LookAt}
+use Rattle.ring_queue.specs.code.Machine.{Answered}
+use Rattle.ring_queue.specs.Calls.{RingQueue, machine_of}
+use Rattle.ring_queue.specs.declared.code.putting.PutAt.{PutAt}
+use Rattle.ring_queue.specs.declared.code.taking.TakeAt.{TakeAt}
+use Rattle.ring_queue.specs.code.Steps.{LookRan, PutRan, TakeRan}
+use Rattle.ring_queue.specs.code.Looking.{look_account}
+use Rattle.ring_queue.specs.code.Putting.{Answer as PutAnswer, put_account}
+use Rattle.ring_queue.specs.code.Taking.{Answer as TakeAnswer, take_account}
 
 module _ {T : Type 0} (c : RingQueue T) (o : Operation T) (p q t : Pass T (SeatLine T)) where
   pub put_after : Since (machine_of c) p q → (r : Next (PutAt T) (PutAnswer T)) → PutRan c o q t r → PutRan c o p t r

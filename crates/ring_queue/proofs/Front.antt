@@ -1,11 +1,9 @@
 -- The slot at the front of a closed ring, found from the hint.
 use Rattle.std.proofs.Common.{◌≡◌, ℕ, ◌+◌, ◌*◌, ◌<◌, ◌≤◌, List, lt_of_not-le, arith}
 use Rattle.std.specs.Prelude.{slice_index}
-use Rattle.tagged_index.specs.Fields.{tag_of}
-use Rattle.ring_machine.specs.Machine.{full_at}
 use Rattle.ring_machine.proofs.Positions.{not_before}
-use Rattle.ring_table.specs.Layout.{slot_at}
-use Rattle.ring_queue.specs.Left.{HasTaken, IsFront}
+use Rattle.ring_queue.specs.Prelude.{full_at, slot_at, tag_of}
+use Rattle.ring_queue.specs.code.Left.{HasTaken, IsFront}
 
 -- a slot of a lap that is not behind the front, and less than so many places before it, or at it
 abbrev pub IsNear : ℕ → ℕ → ℕ → ℕ → ℕ → Type 0

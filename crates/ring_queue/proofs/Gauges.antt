@@ -1,22 +1,16 @@
 -- Where a gauge goes on.
 use Rattle.std.proofs.Common.{◌≡◌, ℕ, Bool, List, [], refl, sym, subst}
 use Rattle.std.specs.Prelude.{Option as Slot}
-use Rattle.tagged_index.specs.Fields.{fields_of}
-use Rattle.ring_machine.specs.declared.lines.Back.TheVariants.{ToGauge}
-use Rattle.ring_machine.specs.Machine.{place}
-use Rattle.running.specs.Code.{Came}
-use Rattle.running.specs.declared.access.Outcome.{Outcome}
-use Rattle.running.specs.declared.code.Next.{Next}
-use Rattle.running.specs.declared.code.Next.TheVariants.{On, Done}
+use Rattle.ring_queue.specs.Prelude.{Came, Done, Next, On, Outcome, ToGauge, fields_of, place}
 use Rattle.ring_queue.specs.declared.calls.gauging.Gauge.{Gauge}
-use Rattle.ring_queue.specs.declared.calls.gauging.GaugeAt.{GaugeAt}
-use Rattle.ring_queue.specs.Ring.{Answered}
-use Rattle.ring_queue.specs.Ring.{RingQueue}
-use Rattle.ring_queue.specs.declared.call_parts.walking.Found.{Found}
-use Rattle.ring_queue.specs.declared.call_parts.walking.WalkAt.{WalkAt}
-use Rattle.ring_queue.specs.Gauging.{gauge_account, gauge_line}
-use Rattle.ring_queue.specs.Ring.{machine_of, room_of}
-use Rattle.ring_queue.specs.Walking.{to_back, WalkedTo}
+use Rattle.ring_queue.specs.declared.code.gauging.GaugeAt.{GaugeAt}
+use Rattle.ring_queue.specs.code.Machine.{Answered}
+use Rattle.ring_queue.specs.Calls.{RingQueue, machine_of, room_of}
+use Rattle.ring_queue.specs.declared.code.walking.Found.{Found}
+use Rattle.ring_queue.specs.declared.code.walking.WalkAt.{WalkAt}
+use Rattle.ring_queue.specs.code.Gauging.{gauge_account, gauge_line}
+use Rattle.ring_queue.specs.code.Walking.{to_back}
+use Rattle.ring_queue.specs.code.Steps.{WalkedTo}
 use Rattle.ring_queue.proofs.Walks.{busy, LeadsTo, walk_goes, walk_ends}
 
 module _ {T : Type 0} (c : RingQueue T) (s : GaugeAt) (r : Outcome) (has : List (ℕ × Slot T)) (came : Came (machine_of c).core (gauge_line s) r [] has) where

@@ -6,18 +6,14 @@ use mathlib.Core.Option.{Option, none, some, some-injective, some-ne-none}
 use lib.ListN.{get_elem?}
 use Rattle.atomic_table.specs.Table.{Final, Seen}
 use Rattle.atomic_table.proofs.Lists.{set_here, set_else, set_again}
-use Rattle.bounded_model.specs.declared.history.Event.{Event}
-use Rattle.bounded_model.specs.declared.views.RootView.{RootView}
 use Rattle.bounded_model.specs.Machine as bounded
 use Rattle.bounded_model.specs.Laws.{IsSound, Leaves}
-use Rattle.machine.specs.declared.seats.View.{View}
 use Rattle.machine.specs.declared.seats.View.TheVariants.{AtRoot}
 use Rattle.machine.specs.Words.{Tagged}
 use Rattle.machine.specs.Seats.{Acts, nothing, Rooted, Knows}
 use Rattle.machine.proofs.Tests.{cases}
 use Rattle.machine.proofs.SeatedEnds.{leaves}
-use Rattle.ring_machine.specs.declared.lines.Line.{Line}
-use Rattle.ring_machine.specs.Machine.{Memory, place, behind, empty_at, full_at}
+use Rattle.ring_machine.specs.Machine.{behind, empty_at}
 use Rattle.ring_machine.specs.Answers.{shape, state}
 use Rattle.ring_machine.specs.Rule.{Good}
 use Rattle.ring_machine.proofs.Cells.{cells_two}
@@ -25,13 +21,12 @@ use Rattle.ring_machine.proofs.Told.{few_values}
 use Rattle.ring_machine.proofs.Positions.{place_behind, slot_behind, lap_before, lap_order}
 use Rattle.running.specs.Rule.{Rule, line_in}
 use Rattle.running.specs.Tables.{at_home}
-use Rattle.ring_table.specs.declared.line.SeatLine.{SeatLine}
 use Rattle.ring_table.specs.Core.{shape_for}
 use Rattle.ring_table.specs.Memories.{memory_of}
-use Rattle.ring_table.proofs.Laws.{ring_on}
 use Rattle.ring_table.proofs.Shapes.{state_same, legal_same}
-use Rattle.ring_table.specs.Seats.{names, passes_of}
-use Rattle.ring_queue.specs.Left.{next_slot, cell_at, HasTaken, IsFront, in_front, values_from}
+use Rattle.ring_table.specs.Seats.{passes_of}
+use Rattle.ring_queue.specs.Prelude.{Event, Line, Memory, RootView, SeatLine, View, full_at, names, place, ring_on}
+use Rattle.ring_queue.specs.code.Left.{next_slot, cell_at, HasTaken, IsFront, in_front, values_from}
 
 pub word_at : (words : List ℕ) (i n : ℕ) → get_elem? words i ≡ some n → slice_index words i ≡ n
 word_at [] i n e = absurd (some-ne-none n (sym e))

@@ -1,4 +1,3 @@
-pub mod Spares
 pub mod Front
 pub mod Crossing
 pub mod Leftover

@@ -1,20 +1,15 @@
 -- Where a look goes on.
 use Rattle.std.proofs.Common.{◌≡◌, ℕ, ◌*◌, Bool, eqb, List, [], refl, sym, subst}
 use Rattle.std.specs.Prelude.{Option as Slot}
-use Rattle.tagged_index.specs.Fields.{tag_of}
-use Rattle.ring_machine.specs.declared.lines.Front.TheVariants.{ToLook}
-use Rattle.running.specs.Code.{Came}
-use Rattle.running.specs.declared.access.Outcome.{Outcome}
-use Rattle.running.specs.declared.code.Next.{Next}
-use Rattle.running.specs.declared.code.Next.TheVariants.{On, Done}
-use Rattle.ring_queue.specs.declared.calls.looking.LookAt.{LookAt}
-use Rattle.ring_queue.specs.Ring.{Answered}
-use Rattle.ring_queue.specs.Ring.{RingQueue}
-use Rattle.ring_queue.specs.declared.call_parts.walking.Found.{Found}
-use Rattle.ring_queue.specs.declared.call_parts.walking.WalkAt.{WalkAt}
-use Rattle.ring_queue.specs.Looking.{look_account, look_line}
-use Rattle.ring_queue.specs.Ring.{machine_of}
-use Rattle.ring_queue.specs.Walking.{to_front, WalkedTo}
+use Rattle.ring_queue.specs.Prelude.{Came, Done, Next, On, Outcome, ToLook, tag_of}
+use Rattle.ring_queue.specs.declared.code.looking.LookAt.{LookAt}
+use Rattle.ring_queue.specs.code.Machine.{Answered}
+use Rattle.ring_queue.specs.Calls.{RingQueue, machine_of}
+use Rattle.ring_queue.specs.declared.code.walking.Found.{Found}
+use Rattle.ring_queue.specs.declared.code.walking.WalkAt.{WalkAt}
+use Rattle.ring_queue.specs.code.Looking.{look_account, look_line}
+use Rattle.ring_queue.specs.code.Walking.{to_front}
+use Rattle.ring_queue.specs.code.Steps.{WalkedTo}
 use Rattle.ring_queue.proofs.Walks.{busy, LeadsTo, walk_goes, walk_ends}
 
 module _ {T : Type 0} (c : RingQueue T) (s : LookAt) (r : Outcome) (has : List (ℕ × Slot T)) (came : Came (machine_of c).core (look_line s) r [] has) where

@@ -5,28 +5,17 @@ use Rattle.std.proofs.lemmas.Bool.Decides.{nat_tests}
 use Rattle.std.specs.Prelude.{Option as Slot, Some, None, Err}
 use Rattle.core.specs.declared.snapshot.Snapshot.{Snapshot}
 use Rattle.atomic_table.specs.Table.{rest}
-use Rattle.tagged_index.specs.Fields.{fields_of, index_of, mark_of, tag_of}
-use Rattle.bounded_model.specs.declared.answers.PutRefused.{PutRefused}
-use Rattle.bounded_model.specs.declared.answers.PutRefused.TheVariants.{Full, Closed, Spent}
-use Rattle.bounded_model.specs.declared.answers.Word.TheVariants.{Next as NextWord}
-use Rattle.ring_machine.specs.declared.lines.Answer.TheVariants.{Put as AnswerPut}
-use Rattle.ring_machine.specs.declared.lines.Back.TheVariants.{ToPut}
-use Rattle.ring_machine.specs.declared.lines.Line.{Line}
-use Rattle.ring_machine.specs.declared.lines.Line.TheVariants.{PutCell, Stow as StowLine}
-use Rattle.running.specs.Code.{Came}
-use Rattle.running.specs.declared.access.Outcome.{Outcome}
-use Rattle.running.specs.declared.code.Next.{Next}
-use Rattle.running.specs.declared.code.Next.TheVariants.{On, Done}
-use Rattle.ring_table.specs.declared.line.SeatLine.TheVariants.{At}
-use Rattle.ring_queue.specs.declared.calls.putting.PutAt.{PutAt}
-use Rattle.ring_queue.specs.declared.calls.putting.PutAt.TheVariants.{Walking, Exchange, Stow}
-use Rattle.ring_queue.specs.Ring.{RingQueue}
-use Rattle.ring_queue.specs.declared.call_parts.walking.Found.{Found}
-use Rattle.ring_queue.specs.declared.call_parts.walking.WalkAt.{WalkAt}
-use Rattle.ring_queue.specs.Calls.{put_of}
-use Rattle.ring_queue.specs.Putting.{Answer, has_room, refused_at, refused_value, put_value, put_account, put_line, put_slots}
-use Rattle.ring_queue.specs.Ring.{laps_of, machine_of}
-use Rattle.ring_queue.specs.Walking.{to_back, walk_line, line_of, spare_at, WalkedTo}
+use Rattle.ring_queue.specs.Prelude.{AnswerPut, At, Came, Closed, Done, Full, Line, Next, NextWord, On, Outcome, PutCell, PutRefused, Spent, StowLine}
+use Rattle.ring_queue.specs.Prelude.{ToPut, fields_of, index_of, mark_of, tag_of}
+use Rattle.ring_queue.specs.declared.code.putting.PutAt.{PutAt}
+use Rattle.ring_queue.specs.declared.code.putting.PutAt.TheVariants.{Walking, Exchange, Stow}
+use Rattle.ring_queue.specs.Calls.{RingQueue, laps_of, machine_of}
+use Rattle.ring_queue.specs.declared.code.walking.Found.{Found}
+use Rattle.ring_queue.specs.declared.code.walking.WalkAt.{WalkAt}
+use Rattle.ring_queue.specs.code.Machine.{put_of}
+use Rattle.ring_queue.specs.code.Putting.{Answer, has_room, refused_at, refused_value, put_value, put_account, put_line, put_slots}
+use Rattle.ring_queue.specs.code.Walking.{to_back, walk_line, line_of, spare_at}
+use Rattle.ring_queue.specs.code.Steps.{WalkedTo}
 use Rattle.ring_queue.proofs.Walks.{busy, LeadsTo, walk_goes, walk_ends, ends_with}
 
 -- what the tests at the back say, one by one

@@ -1,18 +1,12 @@
 -- What a refused put of a ring tells, from the answer that its machine ended with.
 use Rattle.std.specs.Prelude.{ℕ, Result, Err}
-use Rattle.bounded_model.specs.declared.answers.PutRefused.{PutRefused}
-use Rattle.bounded_model.specs.declared.answers.PutRefused.TheVariants.{Full, Spent}
-use Rattle.bounded_model.specs.declared.answers.Stepped.{Stepped}
-use Rattle.bounded_model.specs.declared.answers.Stepped.TheVariants.{Again, Done}
-use Rattle.bounded_model.specs.declared.views.PassView.{PassView}
-use Rattle.running.specs.Going.{Ended}
+use Rattle.bounded_model.specs.declared.answers.Stepped.TheVariants.{Done}
 use Rattle.running.specs.Kept.{Took, answer_of}
-use Rattle.ring_table.specs.declared.operation.Operation.{Operation}
 use Rattle.ring_table.proofs.Gives.{put_full, put_spent}
-use Rattle.ring_queue.specs.KeepsAnswers.{put_promises}
-use Rattle.ring_queue.specs.Putting.{PutOp, put_account}
-use Rattle.ring_queue.specs.Refusals.{FullTells, FullTried, SpentTells, SpentTried}
-use Rattle.ring_queue.specs.Ring.{Pass, RingQueue, keeps, laps_of, machine_of, pass_in, passes_of, room_of}
+use Rattle.ring_queue.specs.Prelude.{Again, Ended, Full, Operation, PassView, PutRefused, Spent, Stepped}
+use Rattle.ring_queue.specs.code.KeepsAnswers.{put_promises}
+use Rattle.ring_queue.specs.Calls.{PutOp, FullTells, FullTried, SpentTells, SpentTried, Pass, RingQueue, keeps, laps_of, machine_of, pass_in, passes_of, room_of}
+use Rattle.ring_queue.specs.code.Putting.{put_account}
 
 module _ {T : Type 0} (c : RingQueue T) (o : Operation T) (begun : PassView T) where
   module _ (back : Pass T) where

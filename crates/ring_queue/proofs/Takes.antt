@@ -4,35 +4,18 @@ use Rattle.std.proofs.Math.Nat.{mul-div-le}
 use Rattle.std.proofs.lemmas.Bool.Decides.{nat_tests}
 use Rattle.std.proofs.lemmas.Option.{none-some}
 use Rattle.std.specs.Prelude.{Option as Slot, Some, None, Err}
-use Rattle.tagged_index.specs.Fields.{fields_of, mark_of, second_of, tag_of}
-use Rattle.tagged_index.specs.declared.limit.Limits.{Limits}
-use Rattle.tagged_index.specs.declared.word.TheConstants.{MAX_TAG}
-use Rattle.bounded_model.specs.declared.answers.TakeRefused.{TakeRefused}
-use Rattle.bounded_model.specs.declared.answers.TakeRefused.TheVariants.{Empty as TakeEmpty, Closed as TakeClosed, Shut as TakeShut}
-use Rattle.ring_machine.specs.declared.lines.Answer.TheVariants.{Take as AnswerTake}
-use Rattle.ring_machine.specs.declared.lines.Front.TheVariants.{ToTake}
-use Rattle.ring_machine.specs.declared.lines.Line.{Line}
-use Rattle.ring_machine.specs.declared.lines.Line.TheVariants.{TakeCell}
-use Rattle.ring_machine.specs.Machine.{ends}
-use Rattle.running.specs.Code.{Came}
-use Rattle.running.specs.declared.access.Outcome.{Outcome}
-use Rattle.running.specs.declared.code.Next.{Next}
-use Rattle.running.specs.declared.code.Next.TheVariants.{On, Done}
-use Rattle.ring_table.specs.declared.line.SeatLine.TheVariants.{At}
-use Rattle.ring_queue.specs.Ring.{RingQueue}
-use Rattle.ring_queue.specs.declared.calls.taking.TakeAt.{TakeAt}
-use Rattle.ring_queue.specs.declared.calls.taking.TakeAt.TheVariants.{Walking, Exchange}
-use Rattle.ring_queue.specs.declared.call_parts.walking.Found.{Found}
-use Rattle.ring_queue.specs.declared.call_parts.walking.WalkAt.{WalkAt}
-use Rattle.ring_queue.specs.Limits.{laps_at}
-use Rattle.ring_queue.specs.Ring.{room_of, machine_of}
-use Rattle.ring_queue.specs.Taking.{Answer, refusal_at, take_account, take_line, take_slots}
-use Rattle.ring_queue.specs.Walking.{to_front, walk_line, line_of, WalkedTo}
+use Rattle.ring_queue.specs.Prelude.{AnswerTake, At, Came, Done, Limits, Line, MAX_TAG, Next, On, Outcome, TakeCell, TakeClosed, TakeEmpty}
+use Rattle.ring_queue.specs.Prelude.{TakeRefused, TakeShut, ToTake, ends, fields_of, mark_of, second_of, tag_of}
+use Rattle.ring_queue.specs.Calls.{RingQueue, room_of, machine_of}
+use Rattle.ring_queue.specs.declared.code.taking.TakeAt.{TakeAt}
+use Rattle.ring_queue.specs.declared.code.taking.TakeAt.TheVariants.{Walking, Exchange}
+use Rattle.ring_queue.specs.declared.code.walking.Found.{Found}
+use Rattle.ring_queue.specs.declared.code.walking.WalkAt.{WalkAt}
+use Rattle.ring_queue.specs.code.Machine.{laps_at}
+use Rattle.ring_queue.specs.code.Taking.{Answer, refusal_at, take_account, take_line, take_slots}
+use Rattle.ring_queue.specs.code.Walking.{to_front, walk_line, line_of}
+use Rattle.ring_queue.specs.code.Steps.{WalkedTo}
 use Rattle.ring_queue.proofs.Walks.{busy, LeadsTo, walk_goes, walk_ends}
-
--- a tag of a slot has room to rise: the greatest one is odd
-pub laps_low : (k : Limits) → 2 * laps_at k < MAX_TAG
-laps_low k = omega (arith, mul-div-le k.tag_limit 2, k.tag_limit_in_range)
 
 -- the line at the front, by why nothing can be taken there
 abbrev by_refusal : {T : Type 0} → Found → Slot TakeRefused → Line T

@@ -1,23 +1,15 @@
 -- Where a step of a walk leads an operation.
 use Rattle.std.proofs.Common.{◌≡◌, ℕ, false, List, refl, sym, subst}
 use Rattle.std.specs.Prelude.{Option as Slot}
-use Rattle.ring_machine.specs.Machine.{is_idle}
-use Rattle.running.specs.Code.{Account, Came, CameBy, Finding, FindingBy, GoesTo, Leads}
+use Rattle.running.specs.Code.{CameBy, FindingBy, GoesTo}
 use Rattle.running.specs.Machine.{Core, Access as Deed, rests, loads, fetches, stows, stores, swaps}
-use Rattle.running.specs.declared.access.Outcome.{Outcome}
-use Rattle.running.specs.declared.code.Next.{Next}
-use Rattle.running.specs.declared.code.Next.TheVariants.{On, Done}
-use Rattle.running.proofs.Leading.{finding}
-use Rattle.ring_table.specs.Seats.{names}
-use Rattle.ring_table.specs.declared.line.SeatLine.{SeatLine}
-use Rattle.ring_table.specs.declared.line.SeatLine.TheVariants.{At}
-use Rattle.ring_table.specs.declared.operation.Operation.{Operation}
-use Rattle.ring_queue.specs.Ring.{RingQueue}
-use Rattle.ring_queue.specs.declared.call_parts.walking.Found.{Found}
-use Rattle.ring_queue.specs.declared.call_parts.walking.WalkAt.{WalkAt}
-use Rattle.ring_queue.specs.declared.call_parts.walking.WalkAt.TheVariants.{LoadHint, LoadSlot, MoveHint}
-use Rattle.ring_queue.specs.Ring.{machine_of}
-use Rattle.ring_queue.specs.Walking.{Aim, to_back, to_front, walk_line, spare_at, Walks, WalkedTo}
+use Rattle.ring_queue.specs.Prelude.{Account, At, Came, Done, Finding, Leads, Next, On, Operation, Outcome, SeatLine, finding, is_idle, names}
+use Rattle.ring_queue.specs.Calls.{RingQueue, machine_of}
+use Rattle.ring_queue.specs.declared.code.walking.Found.{Found}
+use Rattle.ring_queue.specs.declared.code.walking.WalkAt.{WalkAt}
+use Rattle.ring_queue.specs.declared.code.walking.WalkAt.TheVariants.{LoadHint, LoadSlot, MoveHint}
+use Rattle.ring_queue.specs.code.Walking.{Aim, to_back, to_front, walk_line, spare_at}
+use Rattle.ring_queue.specs.code.Steps.{Walks, WalkedTo}
 
 pub busy : {T : Type 0} (aim : Aim T) (at : WalkAt) → is_idle (walk_line aim at) ≡ false
 busy (to_back s) (LoadHint c) = refl

@@ -1,8 +1,7 @@
-//! The calls of a ring: the states of each, and its steps.
+//! The calls of a ring: what each does and promises, and the code that runs if no other pass is faster.
 
 pub(crate) mod closing;
 pub(crate) mod counting;
-pub(crate) mod every;
 pub(crate) mod gauging;
 pub(crate) mod looking;
 pub(crate) mod putting;

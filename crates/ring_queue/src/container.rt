@@ -6,12 +6,11 @@ use std::sync::Wait;
 
 impl<T: Drop + Send> Container<T> for RingQueue<T> {
     ghost use Rattle.std.specs.Prelude.{refl};
-    ghost use Rattle.ring_queue.specs.KeepsPasses.{passes_in_range};
+    ghost use Rattle.ring_queue.specs.code.KeepsPasses.{passes_in_range};
     ghost use Rattle.tagged_index.specs.Limits.{passes_of};
     ghost use Rattle.bounded_model.specs.declared.history.Order.TheVariants.{Fifo};
     ghost use Rattle.running.specs.Passes.{told_in};
-    ghost use Rattle.ring_queue.specs.Ring.{IsNoteOf, IsPassOf, pass_in, shape_of};
-    ghost use Rattle.ring_queue.specs.Roots.{IsRootOf, root_in};
+    ghost use Rattle.ring_queue.specs.Calls.{IsNoteOf, IsPassOf, pass_in, shape_of, IsRootOf, root_in};
 
     type Root = Root<T>;
 

@@ -18,23 +18,23 @@
 //! back to back.
 #![tactic(auto)]
 
-mod call_parts;
 mod calls;
+mod code;
 mod container;
-mod fast_paths;
 mod life;
 mod naming;
 mod places;
 mod rule;
 mod stepwise;
 
-pub use calls::closing::{CloseOp, ShutOp};
-pub use calls::counting::LenOp;
-pub use calls::every::{AnyOp, RingAt};
-pub use calls::gauging::{Gauge, GaugeOp};
-pub use calls::looking::LookOp;
-pub use calls::putting::PutOp;
-pub use calls::taking::TakeOp;
+pub use code::closing::{CloseOp, ShutOp};
+pub use code::counting::LenOp;
+pub use code::every::{AnyOp, RingAt};
+pub use calls::gauging::Gauge;
+pub use code::gauging::GaugeOp;
+pub use code::looking::LookOp;
+pub use code::putting::PutOp;
+pub use code::taking::TakeOp;
 pub use life::limits::{MAX_LAPS, MIN_LAPS, RingLimits};
 pub use life::rest::Rest;
 pub use life::ring::{Answered, Note, Pass, RingQueue, Root};

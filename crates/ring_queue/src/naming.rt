@@ -1,16 +1,16 @@
 //! The names of the next steps of operations under way.
 ghost use Rattle.std.specs.Prelude.{◌≡◌, ℕ};
-ghost use Rattle.ring_queue.specs.Closing.{mark_line};
-ghost use Rattle.ring_queue.specs.Naming.{IsNextStep, IsStep, hint_at};
-ghost use Rattle.ring_queue.specs.Putting.{put_line};
-ghost use Rattle.ring_queue.specs.Taking.{take_line};
-ghost use Rattle.ring_queue.specs.Walking.{Aim, walk_line};
+ghost use Rattle.ring_queue.specs.code.Closing.{mark_line};
+ghost use Rattle.ring_queue.specs.code.Naming.{IsNextStep, IsStep, hint_at};
+ghost use Rattle.ring_queue.specs.code.Putting.{put_line};
+ghost use Rattle.ring_queue.specs.code.Taking.{take_line};
+ghost use Rattle.ring_queue.specs.code.Walking.{Aim, walk_line};
 
-use crate::call_parts::walking::WalkAt;
-use crate::calls::closing::{Mark, MarkAt};
-use crate::calls::every::{AnyOp, RingAt};
-use crate::calls::putting::PutAt;
-use crate::calls::taking::TakeAt;
+use crate::code::walking::WalkAt;
+use crate::code::closing::{Mark, MarkAt};
+use crate::code::every::{AnyOp, RingAt};
+use crate::code::putting::PutAt;
+use crate::code::taking::TakeAt;
 use crate::life::ring::RingQueue;
 use step_names::{Location, Named, StepName};
 

@@ -10,7 +10,7 @@ pub struct Ringed {
 
 impl<T> Machine<T, SeatLine<T>, Operation<T>> for Ringed {
     ghost use Rattle.ring_table.specs.Seats.{names};
-    ghost use Rattle.ring_queue.specs.Limits.{machine_at};
+    ghost use Rattle.ring_queue.specs.code.Machine.{machine_at};
 
     ghost names = { names };
 
@@ -21,7 +21,7 @@ impl<T> ListMachine<T, SeatLine<T>, Operation<T>, 0> for Ringed {
     ghost use Rattle.tagged_index.specs.Limits.{capacity_of, passes_of};
     ghost use Rattle.ring_table.specs.Lists.{lists};
     ghost use Rattle.ring_table.proofs.Hosts.{list_laws};
-    ghost use Rattle.ring_queue.specs.Limits.{laps_at};
+    ghost use Rattle.ring_queue.specs.code.Machine.{laps_at};
 
     ghost lists = { lists };
 

@@ -1,15 +1,15 @@
 //! A ring's calls by single steps. One operation makes every call.
 ghost use Rattle.std.specs.Prelude.{◌≡◌};
 ghost use Rattle.bounded_model.specs.Stepping.{no_step};
-ghost use Rattle.ring_queue.specs.Ring.{IsPassOf, pass_in};
-ghost use Rattle.ring_queue.specs.Stepwise.{IsMakingCall, making};
+ghost use Rattle.ring_queue.specs.Calls.{IsPassOf, pass_in, IsMakingCall, making};
 
-use crate::call_parts::walking::WalkAt;
-use crate::calls::closing::{Mark, MarkAt};
-use crate::calls::every::{AnyOp, RingAt};
-use crate::calls::looking::LookAt;
-use crate::calls::putting::{PutAt, put_operation};
-use crate::calls::taking::TakeAt;
+use crate::code::walking::WalkAt;
+use crate::code::closing::{Mark, MarkAt};
+use crate::code::every::{AnyOp, RingAt};
+use crate::code::looking::LookAt;
+use crate::code::putting::PutAt;
+use crate::calls::putting::put_operation;
+use crate::code::taking::TakeAt;
 use crate::life::ring::{Pass, RingQueue};
 use bounded_model::{Command, Reply, Stepped, Stepwise};
 use ring_table::Operation;
@@ -65,7 +65,7 @@ impl<T> RingQueue<T> {
 }
 
 impl<T: Drop + Send> Stepwise<T> for RingQueue<T> {
-    ghost use Rattle.ring_queue.specs.Stepwise.{IsMakingCall, making};
+    ghost use Rattle.ring_queue.specs.Calls.{IsMakingCall, making};
 
     type Op = AnyOp<T>;
 

@@ -1,10 +1,7 @@
 -- What the passes of a ring do.
 use Rattle.std.specs.Prelude.{ℕ}
 use Rattle.bounded_model.specs.declared.commands.Command.{Command}
-use Rattle.ring_queue.specs.Counting.{IsCounting}
-use Rattle.ring_queue.specs.Gauging.{IsGauging}
-use Rattle.ring_queue.specs.Ring.{IsPassOf, RingQueue}
-use Rattle.ring_queue.specs.Stepwise.{IsMakingCall}
+use Rattle.ring_queue.specs.Calls.{IsCounting, IsGauging, IsPassOf, RingQueue, IsMakingCall}
 use Rattle.ring_tests.specs.declared.doing.Doing.{Doing}
 use Rattle.ring_tests.specs.declared.doing.Doing.TheVariants.{Rests, Calls, Counts, Gauges}
 

@@ -2,9 +2,7 @@
 
 ghost use Rattle.std.specs.Prelude.{ℕ};
 ghost use Rattle.bounded_model.specs.declared.commands.Command.{Command as Call};
-ghost use Rattle.ring_queue.specs.Counting.{IsCounting};
-ghost use Rattle.ring_queue.specs.Ring.{IsPassOf};
-ghost use Rattle.ring_queue.specs.Stepwise.{IsMakingCall};
+ghost use Rattle.ring_queue.specs.Calls.{IsCounting, IsPassOf, IsMakingCall};
 
 use crate::doing::count_on;
 use bounded_model::{Command, Reply, Stepped, Stepwise};

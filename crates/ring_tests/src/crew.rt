@@ -1,7 +1,7 @@
 //! All the passes for which a ring was made, each of which has stopped in the middle of a call.
 //! Each has a cell of its own.
 
-ghost use Rattle.ring_queue.specs.Roots.{IsRootOf};
+ghost use Rattle.ring_queue.specs.Calls.{IsRootOf};
 
 use crate::calls::{call_for, call_to_the_end};
 use bounded_model::{Command, Container, Leaving, PutRefused, Reply, TakeRefused};

@@ -1,9 +1,7 @@
 //! What the passes of a ring do: nothing, or a call by single steps.
 
 ghost use Rattle.bounded_model.specs.Stepping.{MatchStepped};
-ghost use Rattle.ring_queue.specs.Counting.{IsCounting};
-ghost use Rattle.ring_queue.specs.Gauging.{IsGauging};
-ghost use Rattle.ring_queue.specs.Ring.{IsPassOf};
+ghost use Rattle.ring_queue.specs.Calls.{IsCounting, IsGauging, IsPassOf};
 ghost use Rattle.ring_tests.specs.Doing.{IsDoing};
 
 use crate::plain::{Asked, Reply};

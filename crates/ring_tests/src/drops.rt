@@ -1,8 +1,7 @@
 //! Each value is dropped once: that of a call that is dropped at any of its lines while other
 //! passes go round, that of a put that is refused, and those of a rest that is read in part.
 
-ghost use Rattle.ring_queue.specs.Ring.{IsPassOf};
-ghost use Rattle.ring_queue.specs.Roots.{IsRootOf};
+ghost use Rattle.ring_queue.specs.Calls.{IsPassOf, IsRootOf};
 
 use crate::calls::call_for;
 use crate::stopped::{LAGS, steps_before, three_laps};

@@ -1,6 +1,6 @@
 //! What is left in a ring at its end.
 
-ghost use Rattle.ring_queue.specs.Leaving.{left_in};
+ghost use Rattle.ring_queue.specs.code.Leaving.{left_in};
 
 use crate::rounds::{put_all, take_all};
 use bounded_model::{Container, Leaving};

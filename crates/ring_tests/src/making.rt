@@ -1,6 +1,6 @@
 //! What a ring may be made with, and how many passes it gives.
 
-ghost use Rattle.ring_queue.specs.Roots.{IsRootOf};
+ghost use Rattle.ring_queue.specs.Calls.{IsRootOf};
 
 use bounded_model::Container;
 use ring_queue::{RingLimits, RingQueue, Root};

@@ -2,8 +2,7 @@
 
 ghost use Rattle.std.specs.Prelude.{ℕ};
 ghost use Rattle.bounded_model.specs.declared.commands.Command.{Command as Call};
-ghost use Rattle.ring_queue.specs.Ring.{IsPassOf};
-ghost use Rattle.ring_queue.specs.Stepwise.{IsMakingCall};
+ghost use Rattle.ring_queue.specs.Calls.{IsPassOf, IsMakingCall};
 
 use crate::calls::{MOST, call_for};
 use crate::stopped::{LAGS, go_through, ring_after, steps_before};

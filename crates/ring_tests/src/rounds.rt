@@ -1,6 +1,6 @@
 //! A ring goes round, closes when it is full or empty, and wears out.
 
-ghost use Rattle.ring_queue.specs.Ring.{IsPassOf};
+ghost use Rattle.ring_queue.specs.Calls.{IsPassOf};
 
 use bounded_model::{Container, PutRefused, Stepwise, TakeRefused, Word};
 use ring_queue::{Pass, RingLimits, RingQueue};

@@ -1,8 +1,7 @@
 //! Calls that overlap, in schedules of single steps that look random: each answer is one that a plain
 //! list may give.
 
-ghost use Rattle.ring_queue.specs.Ring.{IsPassOf};
-ghost use Rattle.ring_queue.specs.Roots.{IsRootOf};
+ghost use Rattle.ring_queue.specs.Calls.{IsPassOf, IsRootOf};
 ghost use Rattle.ring_tests.specs.Doing.{IsDoing};
 
 use crate::dice::Dice;

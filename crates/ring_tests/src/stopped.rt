@@ -1,6 +1,6 @@
 //! A call stops at each of its lines, and continues after others went three laps round.
 
-ghost use Rattle.ring_queue.specs.Ring.{IsPassOf};
+ghost use Rattle.ring_queue.specs.Calls.{IsPassOf};
 
 use crate::calls::{call_for, call_to_the_end};
 use crate::rounds::{put_all, take_all};

@@ -1,7 +1,7 @@
 //! One thread stops in the middle of a put, and one in the middle of a take. Other passes continue,
 //! and the two calls end once their threads continue.
 
-ghost use Rattle.ring_queue.specs.Ring.{IsPassOf};
+ghost use Rattle.ring_queue.specs.Calls.{IsPassOf};
 
 use crate::calls::{call_for, call_to_the_end};
 use crate::rounds::{put_all, take_all};

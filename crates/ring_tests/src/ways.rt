@@ -1,7 +1,7 @@
 //! The ways to make a call of a ring: whole, begun as a call of any kind, and begun as one of its own
 //! kind.
 
-ghost use Rattle.ring_queue.specs.Ring.{IsPassOf};
+ghost use Rattle.ring_queue.specs.Calls.{IsPassOf};
 
 use crate::doing::{Doing, begun, stepped};
 use crate::plain::{Asked, Reply};

@@ -9,8 +9,8 @@ use Rattle.bounded_model.specs.declared.history.Order.{Order}
 use Rattle.bounded_model.specs.declared.history.Order.TheVariants.{Fifo, Lifo}
 use Rattle.bounded_model.specs.Laws.{fresh}
 use Rattle.bounded_model.specs.Machine.{Shape}
-use Rattle.ms_queue.specs.Naming as queue_naming
-use Rattle.treiber_stack.specs.Naming as stack_naming
+use Rattle.ms_queue.specs.code.Naming as queue_naming
+use Rattle.treiber_stack.specs.code.Naming as stack_naming
 use Rattle.player.specs.Plays.{start}
 use Rattle.player.specs.Shows.{Reading}
 use Rattle.player.specs.Traces.{PlaysTraced, nothing_held}

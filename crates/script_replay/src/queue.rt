@@ -4,7 +4,7 @@ ghost use Rattle.std.specs.Prelude.{◌≡◌, IfOk, IsTrue, string_bytes};
 ghost use Rattle.std.specs.List.{AllByRecursion};
 ghost use Rattle.bounded_model.specs.Laws.{fresh};
 ghost use Rattle.bounded_model.specs.declared.history.Order.TheVariants.{Fifo};
-ghost use Rattle.ms_queue.specs.Queue.{IsRootOf, root_in};
+ghost use Rattle.ms_queue.specs.Calls.{IsRootOf, root_in};
 ghost use Rattle.script.specs.Script.{FinishesLast, IsLine, is_allowed};
 ghost use Rattle.script.specs.View.{head_view};
 ghost use Rattle.player.specs.Traces.{Adds, lines_in};

@@ -9,7 +9,7 @@ ghost use Rattle.script.specs.Script.{FinishesLast, IsLine, is_allowed};
 ghost use Rattle.script.specs.View.{head_view};
 ghost use Rattle.script_replay.specs.Outcome.{IsOutputIn};
 ghost use Rattle.script_replay.specs.Traced.{IsTracedIn};
-ghost use Rattle.treiber_stack.specs.Stack.{IsRootOf, root_in};
+ghost use Rattle.treiber_stack.specs.Calls.{IsRootOf, root_in};
 
 use bounded_model::{MakeRefused, TakeRefused};
 use player::{BulkRanges, Ranges, Trace, play};

@@ -1,6 +1,6 @@
 //! Ranges go in and folds take all beside takes of single values.
 
-ghost use Rattle.treiber_stack.specs.Stack.{IsPassOf};
+ghost use Rattle.treiber_stack.specs.Calls.{IsPassOf};
 
 use bounded_model::{PutRefused, TakeRefused};
 use std::alloc::{AllocFailed, Global};

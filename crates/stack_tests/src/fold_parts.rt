@@ -1,8 +1,8 @@
 //! Folds that are run in parts of one step.
 
 ghost use Rattle.std.specs.Prelude.{ℕ, List};
-ghost use Rattle.treiber_stack.specs.FoldOp.{IsFolding};
-ghost use Rattle.treiber_stack.specs.Stack.{IsPassOf};
+ghost use Rattle.treiber_stack.specs.Bulk.{IsFolding};
+ghost use Rattle.treiber_stack.specs.Calls.{IsPassOf};
 
 use bounded_model::{Container, Folded, TakeRefused};
 use std::process::Abort;

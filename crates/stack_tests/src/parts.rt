@@ -2,7 +2,7 @@
 
 ghost use Rattle.std.specs.Prelude.{IsSome};
 ghost use Rattle.std.specs.List.{AllByRecursion as Every};
-ghost use Rattle.treiber_stack.specs.Stack.{IsPassOf};
+ghost use Rattle.treiber_stack.specs.Calls.{IsPassOf};
 
 use bounded_model::{Container, RangeRefused, Ranged, Stepped};
 use std::process::Abort;

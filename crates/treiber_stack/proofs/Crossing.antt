@@ -9,10 +9,10 @@ use Rattle.running.proofs.Crossing.{row_send, lease_send}
 use Rattle.running.specs.contracts.op.Op as op
 use Rattle.stack_machine.specs.contracts.lines.Line as line
 use Rattle.stack_table.specs.contracts.operation.Operation as operation
-use Rattle.treiber_stack.specs.contracts.calls.every.StackAt as every
-use Rattle.treiber_stack.specs.contracts.calls.putting.PutAt as put_at
+use Rattle.treiber_stack.specs.contracts.code.every.StackAt as every
+use Rattle.treiber_stack.specs.contracts.code.putting.PutAt as put_at
 use Rattle.treiber_stack.specs.contracts.life.rest.Rest as rest
-use Rattle.treiber_stack.specs.contracts.calls.taking.TakeAt as take_at
+use Rattle.treiber_stack.specs.contracts.code.taking.TakeAt as take_at
 
 pub rest_send : (T : RattleType) → IsSend T → IsSend (rest.the_row T)
 rest_send T s = search (sendable, row_send, lease_send, heap_send) depth 20

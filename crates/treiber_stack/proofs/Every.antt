@@ -1,29 +1,22 @@
 -- Where the code of a call goes on, by where that of its own kind does.
 use Rattle.std.proofs.Common.{◌≡◌, ℕ, Bool, List, refl, sym, ap, ◌∙◌, subst}
 use Rattle.std.specs.Prelude.{Option as Slot}
-use Rattle.bounded_model.specs.declared.commands.Reply.{Reply}
 use Rattle.bounded_model.specs.declared.commands.Reply.TheVariants as reply
-use Rattle.stack_machine.specs.declared.lines.Line.{Line}
-use Rattle.stack_machine.specs.Machine.{ends}
-use Rattle.stack_table.specs.Lines.{names}
-use Rattle.stack_table.specs.declared.operation.Operation.{Operation}
-use Rattle.running.specs.Code.{Account, Finding, Leads}
-use Rattle.running.specs.declared.access.Outcome.{Outcome}
-use Rattle.running.specs.declared.code.Next.{Next}
-use Rattle.running.specs.declared.code.Next.TheVariants.{On, Lost, Done}
-use Rattle.running.proofs.Leading.{finding}
-use Rattle.treiber_stack.specs.Closing.{answer_of, mark_account, mark_name, mark_reply, sets}
-use Rattle.treiber_stack.specs.Every.{every_account, every_answer, every_line, every_slots}
-use Rattle.treiber_stack.specs.Putting.{Answer as PutAnswer, put_account}
-use Rattle.treiber_stack.specs.Stack.{Stack, Answered, machine_of}
-use Rattle.treiber_stack.specs.Taking.{Answer as TakeAnswer, take_account}
-use Rattle.treiber_stack.specs.declared.calls.closing.Mark.{Mark}
-use Rattle.treiber_stack.specs.declared.calls.closing.Mark.TheVariants.{Closed, Shut}
-use Rattle.treiber_stack.specs.declared.calls.closing.MarkAt.{MarkAt}
-use Rattle.treiber_stack.specs.declared.calls.every.StackAt.{StackAt}
-use Rattle.treiber_stack.specs.declared.calls.every.StackAt.TheVariants.{Put, Take, Mark as Mark'}
-use Rattle.treiber_stack.specs.declared.calls.putting.PutAt.{PutAt}
-use Rattle.treiber_stack.specs.declared.calls.taking.TakeAt.{TakeAt}
+use Rattle.treiber_stack.specs.Prelude.{Account, Done, Finding, Leads, Line, Next, NextLost as Lost, On, Operation, Outcome, Reply, ends, finding}
+use Rattle.treiber_stack.specs.Prelude.{names}
+use Rattle.treiber_stack.specs.code.Closing.{answer_of, mark_account, mark_name, mark_reply, sets}
+use Rattle.treiber_stack.specs.code.Every.{every_account, every_answer, every_line, every_slots}
+use Rattle.treiber_stack.specs.code.Putting.{Answer as PutAnswer, put_account}
+use Rattle.treiber_stack.specs.Calls.{Stack, machine_of}
+use Rattle.treiber_stack.specs.code.Machine.{Answered}
+use Rattle.treiber_stack.specs.code.Taking.{Answer as TakeAnswer, take_account}
+use Rattle.treiber_stack.specs.declared.code.closing.Mark.{Mark}
+use Rattle.treiber_stack.specs.declared.code.closing.Mark.TheVariants.{Closed, Shut}
+use Rattle.treiber_stack.specs.declared.code.closing.MarkAt.{MarkAt}
+use Rattle.treiber_stack.specs.declared.code.every.StackAt.{StackAt}
+use Rattle.treiber_stack.specs.declared.code.every.StackAt.TheVariants.{Put, Take, Mark as Mark'}
+use Rattle.treiber_stack.specs.declared.code.putting.PutAt.{PutAt}
+use Rattle.treiber_stack.specs.declared.code.taking.TakeAt.{TakeAt}
 
 -- a call's own next state as one of any call
 abbrev pub every : {T S R : Type 0} → (S → StackAt T) → (R → Reply T) → Next S (Answered R) → Next (StackAt T) (Answered (Reply T))

@@ -1,21 +1,15 @@
 -- Some steps of an operation after others, if the operation went on.
 use Rattle.std.proofs.Common.{◌≡◌, ℕ, ◌≤◌}
-use Rattle.bounded_model.specs.declared.answers.Stepped.{Stepped}
-use Rattle.bounded_model.specs.declared.answers.Stepped.TheVariants.{Again, Done}
-use Rattle.bounded_model.specs.Stepping.{MatchStepped}
-use Rattle.stack_machine.specs.declared.lines.Line.{Line}
-use Rattle.stack_table.specs.declared.operation.Operation.{Operation}
-use Rattle.running.specs.declared.kept.PassWith.{PassWith}
-use Rattle.running.specs.declared.op.Op.{Op}
-use Rattle.running.specs.Passes.{Since, pass_in}
-use Rattle.running.specs.declared.passes.Pass.{Pass}
-use Rattle.running.specs.declared.code.Next.{Next}
+use Rattle.bounded_model.specs.declared.answers.Stepped.TheVariants.{Done}
+use Rattle.running.specs.Passes.{Since}
 use Rattle.running.proofs.Leading.{ran_on}
-use Rattle.treiber_stack.specs.declared.calls.putting.PutAt.{PutAt}
-use Rattle.treiber_stack.specs.declared.calls.taking.TakeAt.{TakeAt}
-use Rattle.treiber_stack.specs.Putting.{Answer as PutAnswer, PutRan, put_account}
-use Rattle.treiber_stack.specs.Stack.{Stack, machine_of}
-use Rattle.treiber_stack.specs.Taking.{Answer as TakeAnswer, TakeRan, take_account}
+use Rattle.treiber_stack.specs.Prelude.{Again, Line, MatchStepped, Next, Op, Operation, Pass, PassWith, Stepped, pass_in}
+use Rattle.treiber_stack.specs.declared.code.putting.PutAt.{PutAt}
+use Rattle.treiber_stack.specs.declared.code.taking.TakeAt.{TakeAt}
+use Rattle.treiber_stack.specs.code.Putting.{Answer as PutAnswer, put_account}
+use Rattle.treiber_stack.specs.code.Steps.{PutRan, TakeRan}
+use Rattle.treiber_stack.specs.Calls.{Stack, machine_of}
+use Rattle.treiber_stack.specs.code.Taking.{Answer as TakeAnswer, take_account}
 
 module _ {T : Type 0} (c : Stack T) (o : Operation T) (p q t : Pass T (Line T)) where
   pub put_after : Since (machine_of c) p q → (r : Next (PutAt T) (PutAnswer T)) → PutRan c o q t r → PutRan c o p t r

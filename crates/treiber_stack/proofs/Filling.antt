@@ -2,36 +2,22 @@
 use Rattle.std.proofs.lemmas.Bool.Decides.{nat_tests}
 use Rattle.std.proofs.Common.{◌≡◌, ◌≢◌, ℕ, zero, suc, ◌+◌, ◌<◌, ◌≤◌, ◌⊎◌, inl, inr, Bool, cond, ltb, List, [], ◌∷◌, ◌++◌, length, reverse, take, refl, sym, ap, ◌∙◌, subst, arith}
 use Rattle.std.specs.Prelude.{Option as Slot, Some, None}
-use Rattle.atomic_table.specs.Table.{rest}
-use Rattle.tagged_index.specs.declared.word.TheConstants.{NULL}
-use Rattle.machine.specs.Seats.{pass_of}
-use Rattle.machine.specs.declared.seats.View.{View}
-use Rattle.machine.specs.Words.{times}
-use Rattle.machine.specs.Chains.{first, last}
-use Rattle.machine.proofs.Chains.{first_in}
-use Rattle.machine.proofs.Lists.{none_of, times_else}
+use mathlib.Core.Option.{some}
+use Rattle.machine.proofs.Lists.{times_else}
 use Rattle.machine.proofs.Sums.{total_one}
 use Rattle.machine.proofs.Tests.{same_or_not, is_true, is_false}
-use Rattle.stack_machine.specs.declared.lines.Putting.{Putting}
-use Rattle.stack_machine.specs.declared.lines.Line.{Line}
-use Rattle.stack_machine.specs.declared.lines.Line.TheVariants.{LoadFree, LoadTop, LinkTaken}
-use Rattle.stack_machine.specs.Machine.{held, next_node, starts}
-use Rattle.stack_table.specs.declared.operation.Operation.{Operation}
-use Rattle.stack_table.specs.Slots.{full}
+use Rattle.stack_machine.specs.Machine.{held}
 use Rattle.running.specs.Going.{Found}
-use Rattle.running.specs.Lists.{AtStep}
 use Rattle.index_list.specs.Kinds.{write_link}
-use Rattle.stack_table.specs.Lists.{lists}
-use mathlib.Core.Option.{some}
-use Rattle.running.specs.declared.passes.Pass.{Pass}
 use Rattle.running.proofs.Ways.{goes_on, started}
-use Rattle.running.specs.Passes.{pass_in}
-use Rattle.treiber_stack.specs.declared.call_parts.giving.Chain.{Chain}
+use Rattle.treiber_stack.specs.Prelude.{AtStep, Line, LinkTaken, LoadFreeLine as LoadFree, LoadTop, NULL, Operation, Pass, Putting, View, first}
+use Rattle.treiber_stack.specs.Prelude.{first_in, full, last, lists, next_node, none_of, pass_in, pass_of, rest, starts, times}
+use Rattle.treiber_stack.specs.declared.code.giving.Chain.{Chain}
 use Rattle.treiber_stack.specs.declared.bulk.range_steps.Held.{Held}
 use Rattle.treiber_stack.specs.declared.bulk.range_steps.RangeAt.TheVariants.{LoadFree as AtFree, Load as AtTop}
-use Rattle.treiber_stack.specs.Ran.{IsRange}
-use Rattle.treiber_stack.specs.Ranging.{putting, loaded, linking, HasTaken, IsFilling, IsNext, IsRangeAt}
-use Rattle.treiber_stack.specs.Stack.{Stack, room_of, machine_of, begun_of, IsAt, IsSeatOf}
+use Rattle.treiber_stack.specs.Calls.{IsRange, Stack, room_of, machine_of, begun_of}
+use Rattle.treiber_stack.specs.code.Ranging.{putting, loaded, linking, HasTaken, IsFilling, IsNext, IsRangeAt}
+use Rattle.treiber_stack.specs.code.Steps.{IsAt, IsSeatOf}
 use Rattle.treiber_stack.proofs.Gives.{moved, ready_step}
 use Rattle.treiber_stack.proofs.Loading.{next_value, loaded_more, same_some}
 use Rattle.treiber_stack.proofs.RangeSteps.{linking_busy, are_nodes}

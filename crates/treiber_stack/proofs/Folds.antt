@@ -1,53 +1,29 @@
 -- What a fold gives, and where its first steps and its last lead.
 use Rattle.std.proofs.Common.{◌≡◌, ℕ, ◌≤◌, Bool, false, List, [], ◌∷◌, ◌++◌, length, refl, sym, ap, ◌∙◌, subst, length-append, arith}
 use Rattle.std.specs.Prelude.{take, Option as Slot, Ok, Err}
-use Rattle.bounded_model.specs.declared.answers.TakeRefused.{TakeRefused}
 use Rattle.bounded_model.specs.declared.answers.TakeRefused.TheVariants.{Shut}
-use Rattle.bounded_model.specs.declared.history.Event.TheVariants.{TakeAll as TakeAllEvent, Free}
+use Rattle.bounded_model.specs.declared.history.Event.TheVariants.{TakeAll as TakeAllEvent}
 use Rattle.bounded_model.specs.declared.views.Answered.TheVariants.{Fold as FoldAnswered}
-use Rattle.bounded_model.specs.declared.views.PassView.{PassView}
-use Rattle.bounded_model.specs.Bulk.{FoldAnswers}
-use Rattle.bounded_model.specs.Histories.{own}
 use Rattle.bounded_model.specs.Consumes.{Folds}
-use Rattle.bounded_model.specs.Laws.{Answers, TakesNothing, FoldGives}
-use Rattle.index_list.specs.declared.front.Front.{Front}
-use Rattle.machine.specs.Seats.{pass_of}
-use Rattle.machine.specs.declared.seats.View.{View}
-use Rattle.stack_machine.specs.declared.lines.Answer.TheVariants.{Fold as AnswerFold}
-use Rattle.stack_machine.specs.declared.lines.Call.TheVariants.{Take as CallTake}
-use Rattle.stack_machine.specs.declared.lines.Taking.TheVariants.{Whole}
-use Rattle.stack_machine.specs.declared.lines.Line.{Line}
-use Rattle.stack_machine.specs.Deeds.{in_order}
-use Rattle.stack_machine.specs.Machine.{ends, is_idle}
+use Rattle.bounded_model.specs.Laws.{TakesNothing}
 use Rattle.stack_machine.proofs.Made.{made_no_fold}
-use Rattle.stack_table.specs.declared.operation.Operation.{Operation}
-use Rattle.stack_table.specs.declared.operation.Operation.TheVariants.{Fold as FoldFirst}
-use Rattle.stack_table.specs.Lines.{direction, names, next}
-use Rattle.stack_table.specs.Slots.{full}
-use Rattle.stack_table.proofs.Slots.{length_in_order, values_full}
-use Rattle.running.specs.Code.{Finding, Leads}
-use Rattle.running.specs.Passes.{pass_in}
-use Rattle.running.specs.Going.{Ended}
-use Rattle.running.specs.Steps.{Stops, StopsAt}
-use Rattle.running.specs.declared.passes.Pass.{Pass}
-use Rattle.running.specs.declared.access.Outcome.{Outcome}
-use Rattle.running.specs.declared.code.Next.{Next}
-use Rattle.running.specs.declared.code.Next.TheVariants.{Done}
+use Rattle.treiber_stack.specs.Prelude.{AnswerFold, Answers, CallTake, Done, Ended, Finding, FoldAnswers, FoldFirst, FoldGives, Free, Front, Leads}
+use Rattle.treiber_stack.specs.Prelude.{Line, Next, Operation, Outcome, Pass, PassView, Stops, StopsAt, TakeRefused, View, Whole, direction, ends}
+use Rattle.treiber_stack.specs.Prelude.{full, in_order, is_idle, length_in_order, names, next, own, pass_in, pass_of, values_full}
 use Rattle.treiber_stack.specs.declared.bulk.fold_op.FoldMade.TheVariants.{Value, Done as Done'}
 use Rattle.treiber_stack.specs.declared.bulk.folding.Batch.{Batch}
 use Rattle.treiber_stack.specs.declared.bulk.folding.FoldAt.{FoldAt}
 use Rattle.treiber_stack.specs.declared.bulk.folding.FoldAt.TheVariants.{Load, TakeAll, LoadToTurn, TurnLink, LoadToFold, GiveBack}
 use Rattle.treiber_stack.specs.declared.bulk.folding.FoldStop.{FoldStop}
 use Rattle.treiber_stack.specs.declared.bulk.folding.FoldStop.TheVariants.{Yields, Ended as AllGone, Refused}
-use Rattle.treiber_stack.specs.declared.call_parts.giving.Chain.{Chain}
-use Rattle.treiber_stack.specs.declared.call_parts.giving.Give.{Give}
-use Rattle.treiber_stack.specs.Folding.{fold_account, nodes_of, folded_of, folding, front_of, gone, fold_line, fold_slots, HasReadToFold, FoldTold}
-use Rattle.treiber_stack.specs.FoldOp.{FoldOp, IsFolding, FoldTried}
-use Rattle.treiber_stack.specs.Giving.{GaveTo}
-use Rattle.treiber_stack.specs.Ran.{WasRun, WasFolded}
-use Rattle.treiber_stack.specs.Refusing.{RefusesTake}
-use Rattle.treiber_stack.specs.Stack.{Stack, as_pass, room_of, limit_of, machine_of, shape_of, begun_of, IsAt}
-use Rattle.treiber_stack.specs.KeepsAnswers.{adds_of}
+use Rattle.treiber_stack.specs.declared.code.giving.Chain.{Chain}
+use Rattle.treiber_stack.specs.declared.code.giving.Give.{Give}
+use Rattle.treiber_stack.specs.code.Folding.{fold_account, nodes_of, folded_of, folding, front_of, gone, fold_line, fold_slots, HasReadToFold, FoldTold}
+use Rattle.treiber_stack.specs.Bulk.{FoldOp, IsFolding, FoldTried}
+use Rattle.treiber_stack.specs.code.Steps.{GaveTo, as_pass, IsAt}
+use Rattle.treiber_stack.specs.Calls.{WasRun, WasFolded, Stack, room_of, limit_of, machine_of, shape_of, begun_of}
+use Rattle.treiber_stack.specs.code.Refusing.{RefusesTake}
+use Rattle.treiber_stack.specs.code.KeepsAnswers.{adds_of}
 use Rattle.treiber_stack.proofs.Gives.{busy_giving, within, gave_within}
 
 -- one value more is folded

@@ -1,16 +1,10 @@
 -- What a gauge gives.
 use Rattle.std.proofs.Common.{ℕ, Bool, []}
-use Rattle.bounded_model.specs.declared.views.PassView.{PassView}
-use Rattle.machine.specs.Seats.{pass_of}
-use Rattle.machine.specs.declared.seats.View.{View}
 use Rattle.stack_machine.specs.declared.lines.Answer.TheVariants.{Gauge as AnswerGauge}
-use Rattle.stack_machine.specs.declared.lines.Line.{Line}
-use Rattle.stack_machine.specs.Machine.{ends}
 use Rattle.stack_table.specs.declared.operation.Operation.TheVariants.{Gauge as GaugeFirst}
-use Rattle.running.specs.Going.{Ended}
-use Rattle.treiber_stack.specs.Gauging.{GaugeGives}
-use Rattle.treiber_stack.specs.KeepsAnswers.{adds_of}
-use Rattle.treiber_stack.specs.Stack.{Stack, machine_of, room_of, limit_of}
+use Rattle.treiber_stack.specs.Prelude.{Ended, Line, PassView, View, ends, pass_of}
+use Rattle.treiber_stack.specs.Calls.{GaugeGives, Stack, machine_of, room_of, limit_of}
+use Rattle.treiber_stack.specs.code.KeepsAnswers.{adds_of}
 
 module _ {T : Type 0} (c : Stack T) where
   pub gauge_gives : {v : View T (Line T)} {begun : PassView T} (closed : Bool) (used : ℕ) → Ended (machine_of c) GaugeFirst v begun (ends (AnswerGauge closed used)) → GaugeGives (room_of c) (limit_of c) begun (pass_of v) (record { closed = closed; used = used })

@@ -1,28 +1,18 @@
 -- Where a step of giving back leads.
 use Rattle.std.proofs.Common.{◌≡◌, ℕ, ◌<◌, false, List, [], ◌∷◌, refl, sym, ap, ◌∙◌, subst}
 use Rattle.std.specs.Prelude.{Option as Slot}
-use Rattle.stack_machine.specs.declared.lines.Giving.{Giving}
-use Rattle.stack_machine.specs.declared.lines.Line.{Line}
-use Rattle.stack_machine.specs.Machine.{is_idle, ends}
-use Rattle.stack_table.specs.declared.operation.Operation.{Operation}
-use Rattle.stack_table.specs.Lines.{names, next}
-use Rattle.stack_table.specs.Slots.{vacant}
 use mathlib.Core.Option.{some}
 use Rattle.index_list.specs.Kinds.{Kind}
-use Rattle.stack_table.specs.Lists.{lists, list_step}
-use Rattle.running.specs.Lists.{AtStep}
-use Rattle.running.specs.Going.{Going, begun_in}
-use Rattle.running.specs.Code.{Account, Finding, Leads, MatchNext, left}
-use Rattle.running.specs.declared.access.Outcome.{Outcome}
-use Rattle.running.specs.declared.code.Next.{Next}
-use Rattle.running.specs.declared.code.Next.TheVariants.{On as NextOn, Lost as NextLost, Done as NextDone}
-use Rattle.running.specs.declared.passes.Pass.{Pass}
-use Rattle.running.proofs.Leading.{finding}
-use Rattle.treiber_stack.specs.declared.call_parts.giving.Chain.{Chain}
-use Rattle.treiber_stack.specs.declared.call_parts.giving.Give.{Give}
-use Rattle.treiber_stack.specs.declared.call_parts.giving.Give.TheVariants.{Load, Link, Exchange}
-use Rattle.treiber_stack.specs.Stack.{Stack, room_of, limit_of, machine_of, begun_of, IsAt}
-use Rattle.treiber_stack.specs.Giving.{AreNodes, give_line, GaveTo}
+use Rattle.stack_table.specs.Lists.{list_step}
+use Rattle.running.specs.Code.{left}
+use Rattle.treiber_stack.specs.Prelude.{Account, AtStep, Done as NextDone, Finding, Giving, Going, Leads, Line, MatchNext, Next, NextLost}
+use Rattle.treiber_stack.specs.Prelude.{On as NextOn, Operation, Outcome, Pass, begun_in, ends, finding, is_idle, lists, names, next, vacant}
+use Rattle.treiber_stack.specs.declared.code.giving.Chain.{Chain}
+use Rattle.treiber_stack.specs.declared.code.giving.Give.{Give}
+use Rattle.treiber_stack.specs.declared.code.giving.Give.TheVariants.{Load, Link, Exchange}
+use Rattle.treiber_stack.specs.Calls.{Stack, room_of, limit_of, machine_of, begun_of}
+use Rattle.treiber_stack.specs.code.Steps.{IsAt, GaveTo}
+use Rattle.treiber_stack.specs.code.Giving.{AreNodes, give_line}
 
 module _ {T : Type 0} where
   -- a pass at a line makes its step on a list

@@ -5,29 +5,21 @@ use mathlib.Core.Option.{Option, none, some, some-injective, some-ne-none}
 use lib.ListN.{get_elem?}
 use Rattle.atomic_table.specs.Table.{Final, Seen}
 use Rattle.atomic_table.proofs.Lists.{set_else, set_again}
-use Rattle.tagged_index.specs.Fields.{index_of}
-use Rattle.tagged_index.specs.declared.word.TheConstants.{NULL}
-use Rattle.bounded_model.specs.declared.views.RootView.{RootView}
 use Rattle.bounded_model.specs.Machine.{state}
 use Rattle.bounded_model.specs.Laws.{IsSound, Leaves}
-use Rattle.machine.specs.Words.{times, Leads}
-use Rattle.stack_machine.specs.declared.lines.Line.{Line}
-use Rattle.machine.specs.declared.seats.View.{View}
-use Rattle.machine.specs.declared.seats.View.TheVariants.{AtRoot}
-use Rattle.stack_machine.specs.Machine.{stacked}
-use Rattle.stack_machine.specs.Answers.{shape}
+use Rattle.machine.specs.Words.{Leads}
 use Rattle.machine.specs.Chains.{HasValues}
 use Rattle.machine.specs.Seats.{Acts, nothing, Rooted, Knows}
 use Rattle.machine.proofs.Tests.{cases}
-use Rattle.machine.proofs.Lists.{times_here, not_there}
+use Rattle.machine.proofs.Lists.{not_there}
 use Rattle.machine.proofs.Chains.{values_frame}
 use Rattle.machine.proofs.SeatedEnds.{leaves}
 use Rattle.running.specs.Rule.{Rule}
-use Rattle.stack_table.specs.Layout.{top_at, link_at}
+use Rattle.stack_table.specs.Layout.{top_at}
 use Rattle.stack_table.specs.Memories.{at_home}
-use Rattle.stack_table.proofs.Laws.{stack}
 use Rattle.stack_table.proofs.Memories.{at_home_is}
-use Rattle.treiber_stack.specs.Left.{count_full, on_top, values_from, left_along}
+use Rattle.treiber_stack.specs.Prelude.{AtRoot, Line, NULL, RootView, View, index_of, link_at, shape, stack, stacked, times, times_here}
+use Rattle.treiber_stack.specs.code.Left.{count_full, on_top, values_from, left_along}
 
 -- a plain link is its own index
 index_of-plain : (w : ℕ) → w ≤ NULL → index_of w ≡ w

@@ -5,8 +5,8 @@ use Rattle.std.proofs.lemmas.Bool.{false≢true}
 use Rattle.std.specs.Prelude.{Option as Slot, Some, None, IsSome}
 use Rattle.std.specs.List.{AllByRecursion as Every}
 use Rattle.bounded_model.specs.Bulk.{somes}
-use Rattle.stack_table.specs.Slots.{full}
-use Rattle.treiber_stack.specs.Ranging.{places_from, value_at}
+use Rattle.treiber_stack.specs.Prelude.{full}
+use Rattle.treiber_stack.specs.code.Ranging.{places_from, value_at}
 
 module _ {T : Type 0} where
   some_or : T → Slot T → T

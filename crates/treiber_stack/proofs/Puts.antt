@@ -1,17 +1,13 @@
 -- What a put gives, and where its steps lead.
 use Rattle.std.proofs.Common.{ℕ, ◌<◌, List, refl}
 use Rattle.std.specs.Prelude.{Option as Slot, Err}
-use Rattle.bounded_model.specs.declared.answers.PutRefused.{PutRefused}
-use Rattle.stack_table.specs.Lines.{names, next}
-use Rattle.running.specs.Code.{Finding, Leads}
-use Rattle.running.specs.declared.access.Outcome.{Outcome}
-use Rattle.running.specs.declared.code.Next.{Next}
-use Rattle.treiber_stack.specs.Putting.{Answer, put_account, put_line, put_slots, refusing}
-use Rattle.treiber_stack.specs.Stack.{Stack, room_of, limit_of, machine_of}
-use Rattle.treiber_stack.specs.declared.call_parts.giving.Give.{Give}
-use Rattle.treiber_stack.specs.declared.calls.putting.PutAt.{PutAt}
-use Rattle.treiber_stack.specs.declared.calls.putting.PutAt.TheVariants.{GiveBack}
-use Rattle.treiber_stack.specs.Giving.{GaveTo}
+use Rattle.treiber_stack.specs.Prelude.{Finding, Leads, Next, Outcome, PutRefused, names, next}
+use Rattle.treiber_stack.specs.code.Putting.{Answer, put_account, put_line, put_slots, refusing}
+use Rattle.treiber_stack.specs.Calls.{Stack, room_of, limit_of, machine_of}
+use Rattle.treiber_stack.specs.declared.code.giving.Give.{Give}
+use Rattle.treiber_stack.specs.declared.code.putting.PutAt.{PutAt}
+use Rattle.treiber_stack.specs.declared.code.putting.PutAt.TheVariants.{GiveBack}
+use Rattle.treiber_stack.specs.code.Steps.{GaveTo}
 use Rattle.treiber_stack.proofs.Gives.{within, gave_within}
 
 module _ {T : Type 0} (c : Stack T) where

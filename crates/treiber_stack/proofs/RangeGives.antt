@@ -2,38 +2,22 @@
 use Rattle.std.proofs.Common.{◌≡◌, ℕ, zero, suc, ◌<◌, ◌≤◌, inl, inr, ⊎_elim, List, [], ◌∷◌, ◌++◌, map, length, take, drop, replicate, refl, sym, ap, ◌∙◌, subst, length-append, arith}
 use Rattle.std.proofs.lemmas.List.{length-drop}
 use Rattle.std.specs.Prelude.{Option as Slot, Some, None, Result, Ok, Err}
-use Rattle.bounded_model.specs.declared.answers.PutRefused.{PutRefused}
-use Rattle.bounded_model.specs.declared.answers.PutRefused.TheVariants.{Full as PutFull, Closed as PutClosed, Spent as PutSpent}
-use Rattle.bounded_model.specs.declared.answers.Word.TheVariants.{Free as FreeWord, Top as TopWord}
-use Rattle.bounded_model.specs.declared.bulk.RangeRefused.{RangeRefused}
-use Rattle.bounded_model.specs.declared.bulk.RangeRefused.TheVariants.{Nothing, Full, Closed, Spent}
 use Rattle.bounded_model.specs.declared.history.Event.TheVariants.{Put}
-use Rattle.bounded_model.specs.declared.views.PassView.{PassView}
-use Rattle.bounded_model.specs.Bulk.{PutsFront, PutsNone, PutsRange, RangeAnswers}
-use Rattle.bounded_model.specs.Histories.{own}
-use Rattle.bounded_model.specs.Laws.{BacksOut, RangeGives, gave_back, holds_of}
-use Rattle.bounded_model.specs.Machine.{Shape}
-use Rattle.machine.specs.Seats.{pass_of}
-use Rattle.machine.specs.declared.seats.View.{View}
-use Rattle.stack_machine.specs.declared.lines.Answer.TheVariants.{Put as AnswerPut}
-use Rattle.stack_machine.specs.declared.lines.Call.{Call}
-use Rattle.stack_machine.specs.declared.lines.Line.{Line}
-use Rattle.stack_machine.specs.Machine.{ends, unplaced}
-use Rattle.stack_machine.specs.Deeds.{Deeds, handed_back}
-use Rattle.stack_machine.proofs.Made.{made_refusal}
-use Rattle.stack_table.specs.Lines.{call_of}
-use Rattle.stack_table.specs.declared.operation.Operation.{Operation}
-use Rattle.running.specs.Going.{Ended}
+use Rattle.bounded_model.specs.Bulk.{PutsFront, PutsNone}
+use Rattle.bounded_model.specs.Laws.{RangeGives}
 use Rattle.running.specs.declared.passes.Pass as runs
+use Rattle.treiber_stack.specs.Prelude.{AnswerPut, BacksOut, Call, Closed, Deeds, Ended, FreeWord, Full, Line, Nothing, Operation, PassView, PutClosed}
+use Rattle.treiber_stack.specs.Prelude.{PutFull, PutRefused, PutSpent, PutsRange, RangeAnswers, RangeRefused, Shape, Spent, TopWord, View, call_of}
+use Rattle.treiber_stack.specs.Prelude.{ends, gave_back, handed_back, holds_of, made_refusal, own, pass_of, unplaced}
 use Rattle.treiber_stack.specs.declared.bulk.range_steps.Held.{Held}
 use Rattle.treiber_stack.specs.declared.bulk.range_steps.RangeEnd.TheVariants.{Barred as IsBarred}
-use Rattle.treiber_stack.specs.declared.call_parts.refusing.Barred.{Barred}
-use Rattle.treiber_stack.specs.declared.call_parts.refusing.Barred.TheVariants.{Closed as BarredClosed, Spent as BarredSpent}
-use Rattle.treiber_stack.specs.Ran.{IsRange, WasRange, WasRun}
-use Rattle.treiber_stack.specs.Ranging.{NotPut, IsOver, IsRefused, PutsOf, places_from, putting}
-use Rattle.treiber_stack.specs.Refusing.{barring, barring_range}
-use Rattle.treiber_stack.specs.Stack.{Stack, IsSeatOf, as_pass, machine_of, shape_of, pass_in}
-use Rattle.treiber_stack.specs.KeepsAnswers.{adds_of}
+use Rattle.treiber_stack.specs.declared.code.refusing.Barred.{Barred}
+use Rattle.treiber_stack.specs.declared.code.refusing.Barred.TheVariants.{Closed as BarredClosed, Spent as BarredSpent}
+use Rattle.treiber_stack.specs.Calls.{IsRange, WasRange, WasRun, Stack, machine_of, shape_of, pass_in}
+use Rattle.treiber_stack.specs.code.Ranging.{NotPut, IsOver, IsRefused, PutsOf, places_from, putting}
+use Rattle.treiber_stack.specs.code.Refusing.{barring, barring_range}
+use Rattle.treiber_stack.specs.code.Steps.{IsSeatOf, as_pass}
+use Rattle.treiber_stack.specs.code.KeepsAnswers.{adds_of}
 use Rattle.treiber_stack.proofs.Filling.{some_in}
 use Rattle.treiber_stack.proofs.Loading.{length_some, somes_taken, drop_some}
 

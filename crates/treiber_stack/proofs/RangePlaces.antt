@@ -1,14 +1,12 @@
 -- A range in parts whose values leave places.
 use Rattle.std.proofs.Common.{◌≡◌, List, sym, subst}
 use Rattle.std.specs.Prelude.{Option as Slot, Result}
-use Rattle.bounded_model.specs.declared.answers.Stepped.{Stepped}
-use Rattle.bounded_model.specs.declared.answers.Stepped.TheVariants.{Again, Done}
-use Rattle.bounded_model.specs.declared.bulk.Ranged.{Ranged}
-use Rattle.bounded_model.specs.declared.bulk.RangeRefused.{RangeRefused}
-use Rattle.bounded_model.specs.declared.views.PassView.{PassView}
-use Rattle.treiber_stack.specs.Ranging.{PutsOf, places_from}
-use Rattle.treiber_stack.specs.RangeTrying.{RangeCame, RangeOp, RangeTried, left_after}
-use Rattle.treiber_stack.specs.Stack.{Pass, Stack}
+use Rattle.bounded_model.specs.declared.answers.Stepped.TheVariants.{Done}
+use Rattle.treiber_stack.specs.Prelude.{Again, PassView, RangeRefused, Ranged, Stepped}
+use Rattle.treiber_stack.specs.code.Ranging.{PutsOf, places_from}
+use Rattle.treiber_stack.specs.code.RangeTrying.{RangeCame, RangeOp, left_after}
+use Rattle.treiber_stack.specs.Bulk.{RangeTried}
+use Rattle.treiber_stack.specs.Calls.{Pass, Stack}
 
 module _ {T : Type 0} (c : Stack T) (vs : List T) (v : PassView T) where
   pub in_places : (made : Stepped (RangeOp T) (Pass T) (Result Ranged RangeRefused)) (places : List (Slot T)) → RangeCame c vs v made → places ≡ places_from (left_after made) vs → RangeTried c vs v places made

@@ -1,45 +1,27 @@
 -- Where the steps of a range lead.
 use Rattle.std.proofs.Common.{◌≡◌, ℕ, ◌<◌, Bool, true, false, cond, eqb, ltb, List, [], ◌∷◌, length, reverse, take, refl, sym, ap, ◌∙◌, subst, eq-eqb, ne_eqb, arith}
 use Rattle.std.specs.Prelude.{Option as Slot, None, Err}
-use Rattle.tagged_index.specs.Fields.{fields_of}
-use Rattle.bounded_model.specs.declared.answers.Word.TheVariants.{Free as FreeWord}
-use Rattle.bounded_model.specs.declared.answers.PutRefused.TheVariants.{Spent as PutSpent}
-use Rattle.bounded_model.specs.declared.views.PassView.{PassView}
-use Rattle.machine.specs.Chains.{first, last}
-use Rattle.machine.proofs.Chains.{first_in, last_in}
-use Rattle.machine.proofs.Lists.{none_of}
-use Rattle.stack_machine.specs.declared.lines.Answer.TheVariants.{Put as AnswerPut}
-use Rattle.stack_machine.specs.declared.lines.Putting.{Putting}
-use Rattle.stack_machine.specs.declared.lines.Line.{Line}
-use Rattle.stack_machine.specs.declared.lines.Line.TheVariants.{LoadFree as LoadFreeLine, LinkTaken, LoadTop, LoadTopToRefuse}
-use Rattle.stack_machine.specs.Machine.{is_idle, ends, next_node, with_node, at_load_free}
-use Rattle.stack_table.specs.declared.operation.Operation.{Operation}
-use Rattle.stack_table.specs.Lines.{names, next}
-use Rattle.stack_table.specs.Slots.{full}
-use Rattle.running.specs.Code.{Finding, Leads}
-use Rattle.running.specs.Rule.{line_in, line_now}
-use Rattle.running.specs.Steps.{StopsAt}
-use Rattle.running.specs.declared.access.Outcome.{Outcome}
-use Rattle.running.specs.declared.code.Next.{Next}
-use Rattle.running.specs.declared.code.Next.TheVariants.{On, Done}
-use Rattle.running.specs.declared.passes.Pass.{Pass}
 use Rattle.running.proofs.Going.{now_going}
-use Rattle.treiber_stack.specs.declared.call_parts.begun.Begun.{Begun}
+use Rattle.treiber_stack.specs.Prelude.{AnswerPut, Done, Finding, FreeWord, Leads, Line, LinkTaken, LoadFreeLine, LoadTop, LoadTopToRefuse, Next, On}
+use Rattle.treiber_stack.specs.Prelude.{Operation, Outcome, Pass, PassView, PutSpent, Putting, StopsAt, at_load_free, ends, fields_of, first, first_in}
+use Rattle.treiber_stack.specs.Prelude.{full, is_idle, last, last_in, line_in, line_now, names, next, next_node, none_of, with_node}
+use Rattle.treiber_stack.specs.declared.code.begun.Begun.{Begun}
 use Rattle.treiber_stack.specs.declared.bulk.range_steps.Held.{Held}
 use Rattle.treiber_stack.specs.declared.bulk.range_steps.Range.{Range}
 use Rattle.treiber_stack.specs.declared.bulk.range_steps.RangeAt.TheVariants.{LoadFree, Load, Refuse, GiveBack}
 use Rattle.treiber_stack.specs.declared.bulk.range_steps.RangeEnd.TheVariants.{Spent as IsSpent, GaveBack}
 use Rattle.treiber_stack.specs.declared.bulk.range_steps.RangeStop.TheVariants.{Took, Over}
 use Rattle.treiber_stack.specs.declared.bulk.range_steps.RangeStopped.{RangeStopped}
-use Rattle.treiber_stack.specs.declared.call_parts.giving.Give.{Give}
-use Rattle.treiber_stack.specs.declared.call_parts.refusing.Barred.{Barred}
-use Rattle.treiber_stack.specs.declared.call_parts.refusing.NoNode.{NoNode}
-use Rattle.treiber_stack.specs.declared.call_parts.refusing.NoNode.TheVariants.{NoneFree, Spent}
-use Rattle.treiber_stack.specs.Begun.{line_begun, put_begun}
-use Rattle.treiber_stack.specs.Giving.{AreNodes, GaveTo}
-use Rattle.treiber_stack.specs.Ranging.{range_account, loaded, linking, refused, range_stop, range_hand, at_line, at_slots, stop_line, stop_hand, HasNodes, Stopped, TakesNode}
-use Rattle.treiber_stack.specs.Refusing.{RefusesNode}
-use Rattle.treiber_stack.specs.Stack.{Stack, room_of, limit_of, machine_of, IsAt}
+use Rattle.treiber_stack.specs.declared.code.giving.Give.{Give}
+use Rattle.treiber_stack.specs.declared.code.refusing.Barred.{Barred}
+use Rattle.treiber_stack.specs.declared.code.refusing.NoNode.{NoNode}
+use Rattle.treiber_stack.specs.declared.code.refusing.NoNode.TheVariants.{NoneFree, Spent}
+use Rattle.treiber_stack.specs.code.Begun.{line_begun, put_begun}
+use Rattle.treiber_stack.specs.code.Giving.{AreNodes}
+use Rattle.treiber_stack.specs.code.Steps.{GaveTo, IsAt}
+use Rattle.treiber_stack.specs.code.Ranging.{range_account, loaded, linking, refused, range_stop, range_hand, at_line, at_slots, stop_line, stop_hand, HasNodes, Stopped, TakesNode}
+use Rattle.treiber_stack.specs.code.Refusing.{RefusesNode}
+use Rattle.treiber_stack.specs.Calls.{Stack, room_of, limit_of, machine_of}
 use Rattle.treiber_stack.proofs.Gives.{within, gave_within}
 use Rattle.treiber_stack.proofs.Refusals.{free_null, free_spent}
 

@@ -3,15 +3,12 @@ use Rattle.std.proofs.lemmas.Bool.{false≢true}
 use Rattle.std.proofs.Common.{◌≡◌, ℕ, suc, ◌+◌, ◌*◌, ◌<◌, ◌≤◌, ◌⊎◌, inl, inr, Bool, true, false, refl, sym, ap, ◌∙◌, subst, arith}
 use Rattle.std.proofs.Math.Nat.{mul-add, mul-le-mul_right, suc-mul}
 use Rattle.std.specs.Prelude.{Result, Ok, Err}
-use Rattle.bounded_model.specs.declared.answers.Stepped.TheVariants.{Again}
-use Rattle.bounded_model.specs.declared.bulk.Ranged.{Ranged}
-use Rattle.bounded_model.specs.declared.bulk.RangeRefused.{RangeRefused}
-use Rattle.bounded_model.specs.declared.views.PassView.{PassView}
-use Rattle.stack_machine.specs.declared.lines.Line.{Line}
-use Rattle.running.specs.Passes.{pass_in}
 use Rattle.running.specs.declared.passes.Pass as runs
-use Rattle.treiber_stack.specs.RangeTrying.{MadeAtMost, PutSoMany, RangeEnds, RangeOp, RangeSteps, StoppedAt, gives_back}
-use Rattle.treiber_stack.specs.Stack.{Pass, as_pass}
+use Rattle.treiber_stack.specs.Prelude.{Again, Line, PassView, RangeRefused, Ranged, pass_in}
+use Rattle.treiber_stack.specs.code.RangeTrying.{MadeAtMost, PutSoMany, RangeEnds, RangeOp, StoppedAt, gives_back}
+use Rattle.treiber_stack.specs.Bulk.{RangeSteps}
+use Rattle.treiber_stack.specs.Calls.{Pass}
+use Rattle.treiber_stack.specs.code.Steps.{as_pass}
 
 true_or_false : (b : Bool) → (b ≡ true) ⊎ (b ≡ false)
 true_or_false true = inl refl

@@ -2,21 +2,11 @@
 use Rattle.std.proofs.lemmas.Bool.{false≢true}
 use Rattle.std.proofs.Common.{◌≡◌, ℕ, ◌-◌, ◌<◌, ◌≤◌, Bool, true, false, List, length, refl, sym, ap, ◌∙◌, subst, arith}
 use Rattle.std.specs.Prelude.{Err}
-use Rattle.bounded_model.specs.declared.views.PassView.{PassView}
-use Rattle.machine.proofs.Lists.{none_of}
-use Rattle.stack_machine.specs.declared.lines.Answer.TheVariants.{Put as AnswerPut}
-use Rattle.stack_machine.specs.declared.lines.Line.{Line}
-use Rattle.stack_machine.specs.declared.lines.Putting.{Putting}
-use Rattle.stack_machine.specs.Machine.{is_idle, ends}
 use Rattle.running.specs.Code.{Tells}
-use Rattle.running.specs.Going.{Ended}
-use Rattle.running.specs.Steps.{Ran, Stops}
-use Rattle.running.specs.declared.code.Next.TheVariants.{On}
-use Rattle.running.specs.declared.passes.Pass.{Pass}
-use Rattle.stack_table.specs.declared.operation.Operation.{Operation}
-use Rattle.treiber_stack.specs.declared.call_parts.begun.Begun.{Begun}
-use Rattle.treiber_stack.specs.declared.call_parts.giving.Give.{Give}
-use Rattle.treiber_stack.specs.declared.call_parts.giving.Give.TheVariants as give
+use Rattle.treiber_stack.specs.Prelude.{AnswerPut, Ended, Line, On, Operation, Pass, PassView, Putting, Ran, Stops, ends, is_idle, none_of}
+use Rattle.treiber_stack.specs.declared.code.begun.Begun.{Begun}
+use Rattle.treiber_stack.specs.declared.code.giving.Give.{Give}
+use Rattle.treiber_stack.specs.declared.code.giving.Give.TheVariants as give
 use Rattle.treiber_stack.specs.declared.bulk.range_steps.Held.{Held}
 use Rattle.treiber_stack.specs.declared.bulk.range_steps.Range.{Range}
 use Rattle.treiber_stack.specs.declared.bulk.range_steps.RangeAt.{RangeAt}
@@ -26,15 +16,15 @@ use Rattle.treiber_stack.specs.declared.bulk.range_steps.RangeEnd.TheVariants.{P
 use Rattle.treiber_stack.specs.declared.bulk.range_steps.RangeStop.{RangeStop}
 use Rattle.treiber_stack.specs.declared.bulk.range_steps.RangeStop.TheVariants.{Took, Over}
 use Rattle.treiber_stack.specs.declared.bulk.range_steps.RangeStopped.{RangeStopped}
-use Rattle.treiber_stack.specs.declared.call_parts.refusing.Barred.{Barred}
-use Rattle.treiber_stack.specs.declared.call_parts.refusing.Barred.TheVariants as barred
-use Rattle.treiber_stack.specs.Begun.{put_at, put_begun}
-use Rattle.treiber_stack.specs.Giving.{AreNodes, give_line}
-use Rattle.treiber_stack.specs.Ran.{IsRange}
-use Rattle.treiber_stack.specs.Ranging.{range_account, at_operation, stop_line, StopTold, HasNodes, HasRead, HasTaken, IsFilling, IsOver, IsRangeAt, StopsSo, Told, ToldStop, putting, range_line, range_slots, refused, takes}
-use Rattle.treiber_stack.specs.RangeTrying.{HasStopped, IsRangeOf, IsRangeOp, RanOn, gives_back, left_at, left_by}
-use Rattle.treiber_stack.specs.Refusing.{barring}
-use Rattle.treiber_stack.specs.Stack.{Stack, room_of, machine_of, begun_of, IsAt, IsSeatOf}
+use Rattle.treiber_stack.specs.declared.code.refusing.Barred.{Barred}
+use Rattle.treiber_stack.specs.declared.code.refusing.Barred.TheVariants as barred
+use Rattle.treiber_stack.specs.code.Begun.{put_at, put_begun}
+use Rattle.treiber_stack.specs.code.Giving.{AreNodes, give_line}
+use Rattle.treiber_stack.specs.Calls.{IsRange, Stack, room_of, machine_of, begun_of}
+use Rattle.treiber_stack.specs.code.Ranging.{range_account, at_operation, stop_line, StopTold, HasNodes, HasRead, HasTaken, IsFilling, IsOver, IsRangeAt, StopsSo, Told, ToldStop, putting, range_line, range_slots, refused, takes}
+use Rattle.treiber_stack.specs.code.RangeTrying.{HasStopped, IsRangeOf, IsRangeOp, RanOn, gives_back, left_at, left_by}
+use Rattle.treiber_stack.specs.code.Refusing.{barring}
+use Rattle.treiber_stack.specs.code.Steps.{IsAt, IsSeatOf}
 use Rattle.treiber_stack.proofs.Filling.{wants_node, wants_top}
 use Rattle.treiber_stack.proofs.RangeSteps.{are_nodes, begun_at, stopped, takes_node}
 

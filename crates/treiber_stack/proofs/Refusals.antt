@@ -1,19 +1,14 @@
 -- Where a load of the top leads.
 use Rattle.std.proofs.Common.{◌≡◌, ◌≢◌, ℕ, ◌<◌, ◌≤◌, Bool, true, false, cond, List, refl, eq-eqb, ne_eqb}
 use Rattle.std.specs.Prelude.{Err}
-use Rattle.tagged_index.specs.Fields.{fields_of, index_of, tag_of, mark_of, second_of}
-use Rattle.tagged_index.specs.declared.word.TheConstants.{NULL}
-use Rattle.bounded_model.specs.declared.answers.Word.TheVariants.{Top as TopWord, Free as FreeWord}
-use Rattle.bounded_model.specs.declared.answers.PutRefused.TheVariants.{Full as PutFull, Spent as PutSpent}
 use Rattle.bounded_model.specs.declared.answers.TakeRefused.TheVariants.{Empty, Closed, Spent, Shut}
 use Rattle.machine.proofs.Tests.{leb_yes, leb_not}
-use Rattle.stack_machine.specs.declared.lines.Putting.{Putting}
-use Rattle.stack_machine.specs.declared.lines.Taking.{Taking}
-use Rattle.stack_machine.specs.declared.lines.Answer.TheVariants.{Put as AnswerPut}
-use Rattle.stack_machine.specs.declared.lines.Line.TheVariants.{LinkToTop, LoadFreeLink, LoadTopToRefuse}
-use Rattle.stack_machine.specs.Machine.{at_load_top, at_load_top_to_refuse, at_load_top_to_take, at_load_free, no_node, ends, takes}
-use Rattle.treiber_stack.specs.declared.call_parts.refusing.Barred.TheVariants.{Closed as BarredClosed, Spent as BarredSpent}
-use Rattle.treiber_stack.specs.Refusing.{AllowsPut, AllowsTake, RefusesPut, RefusesTake}
+use Rattle.stack_machine.specs.Machine.{no_node, takes}
+use Rattle.treiber_stack.specs.Prelude.{AnswerPut, FreeWord, LinkToTop, LoadFreeLink, LoadTopToRefuse, NULL, PutFull, PutSpent, Putting, Taking}
+use Rattle.treiber_stack.specs.Prelude.{TopWord, at_load_free, at_load_top, at_load_top_to_refuse, at_load_top_to_take, ends, fields_of, index_of}
+use Rattle.treiber_stack.specs.Prelude.{mark_of, second_of, tag_of}
+use Rattle.treiber_stack.specs.declared.code.refusing.Barred.TheVariants.{Closed as BarredClosed, Spent as BarredSpent}
+use Rattle.treiber_stack.specs.code.Refusing.{AllowsPut, AllowsTake, RefusesPut, RefusesTake}
 
 module _ {T : Type 0} (limit w : ℕ) where
   -- a put

@@ -2,51 +2,34 @@
 use Rattle.std.proofs.Common.{◌≡◌, ℕ, zero, suc, ◌+◌, ◌<◌, ◌≤◌, List, [], ◌∷◌, ◌++◌, length, reverse, take, slice_index, refl, sym, ap, ◌∙◌, subst, append_assoc, append-nil, length-append, arith}
 use Rattle.std.proofs.lemmas.List.{reverse-append}
 use Rattle.std.specs.Prelude.{Option as Slot, Some, None, Err}
-use Rattle.atomic_table.specs.Table.{rest}
-use Rattle.tagged_index.specs.Fields.{index_of}
-use Rattle.tagged_index.specs.declared.word.TheConstants.{NULL}
-use Rattle.bounded_model.specs.declared.answers.PutRefused.{PutRefused}
-use Rattle.bounded_model.specs.declared.history.Event.{Event}
-use Rattle.bounded_model.specs.declared.views.PassView.{PassView}
 use Rattle.bounded_model.proofs.Adding.{Sometime-wider}
 use Rattle.bounded_model.proofs.Histories.{is_nil, Later-refl, Later-trans}
-use Rattle.machine.specs.Words.{times, IsChain}
-use Rattle.machine.specs.Chains.{first, last}
-use Rattle.machine.proofs.Chains.{first_in, last_in}
+use Rattle.machine.specs.Words.{IsChain}
 use Rattle.machine.specs.Seats.{Looks}
 use Rattle.machine.specs.declared.seats.Begun.{Begun}
-use Rattle.machine.specs.declared.seats.View.{View}
 use Rattle.running.specs.Acts.{Course, made}
-use Rattle.machine.specs.declared.seats.View.TheVariants.{AtRoot, AtPass, AtMeeting, AtNote, AtHearing, Left}
-use Rattle.machine.proofs.Lists.{times_here, times_append}
-use Rattle.stack_machine.specs.Deeds.{Deeds, Makes, handed_back}
-use Rattle.stack_machine.specs.Machine.{starts, stacked}
+use Rattle.machine.specs.declared.seats.View.TheVariants.{AtPass, AtMeeting, AtNote, AtHearing, Left}
+use Rattle.stack_machine.specs.Deeds.{Makes}
 use Rattle.stack_machine.specs.Rule.{IsFine, Gives}
-use Rattle.stack_machine.specs.declared.lines.Answer.TheVariants.{Put as AnswerPut}
-use Rattle.stack_machine.specs.declared.lines.Call.{Call}
-use Rattle.stack_machine.specs.declared.lines.Call.TheVariants.{Put as CallPut, Take as CallTake, Close as CallClose, Shut as CallShut, Look as CallLook, Gauge as CallGauge}
-use Rattle.stack_machine.specs.declared.lines.Taking.TheVariants.{One, Whole}
-use Rattle.stack_machine.specs.declared.lines.Giving.{Giving}
-use Rattle.stack_machine.specs.declared.lines.Line.{Line}
-use Rattle.stack_machine.specs.declared.lines.Line.TheVariants.{Idle, LoadFreeToGive}
+use Rattle.stack_machine.specs.declared.lines.Call.TheVariants.{Close as CallClose, Shut as CallShut, Look as CallLook, Gauge as CallGauge}
+use Rattle.stack_machine.specs.declared.lines.Line.TheVariants.{Idle}
 use Rattle.stack_machine.proofs.Doing.{meanwhile}
-use Rattle.stack_table.specs.Layout.{link_at}
-use Rattle.stack_table.specs.Lines.{PutsMany, call_of, names}
+use Rattle.stack_table.specs.Lines.{PutsMany}
 use Rattle.stack_table.specs.Memories.{memory_of}
-use Rattle.stack_table.specs.Slots.{full, vacant}
-use Rattle.stack_table.specs.declared.operation.Operation.{Operation}
-use Rattle.stack_table.proofs.Slots.{vacant_append}
-use Rattle.running.specs.Going.{Going, Peeked, begun_in}
-use Rattle.running.specs.Rule.{line_in, line_now, begun_now, MayLook}
-use Rattle.running.specs.declared.passes.Pass.{Pass}
-use Rattle.treiber_stack.specs.declared.call_parts.giving.Give.TheVariants.{Load}
+use Rattle.running.specs.Going.{Peeked}
+use Rattle.running.specs.Rule.{begun_now, MayLook}
+use Rattle.treiber_stack.specs.Prelude.{AnswerPut, AtRoot, Call, CallPut, CallTake, Deeds, Event, Giving, Going, Line, LoadFreeToGive, NULL, One}
+use Rattle.treiber_stack.specs.Prelude.{Operation, Pass, PassView, PutRefused, View, Whole, begun_in, call_of, first, first_in, full, handed_back}
+use Rattle.treiber_stack.specs.Prelude.{index_of, last, last_in, line_in, line_now, link_at, names, rest, stacked, starts, times, times_append}
+use Rattle.treiber_stack.specs.Prelude.{times_here, vacant, vacant_append}
+use Rattle.treiber_stack.specs.declared.code.giving.Give.TheVariants.{Load}
 use Rattle.treiber_stack.specs.declared.bulk.range_steps.Held.{Held}
-use Rattle.treiber_stack.specs.declared.call_parts.refusing.Barred.{Barred}
-use Rattle.treiber_stack.specs.declared.call_parts.refusing.Barred.TheVariants.{Closed, Spent}
-use Rattle.treiber_stack.specs.Giving.{IsGiving}
-use Rattle.treiber_stack.specs.Ranging.{putting, refused, IsNext, IsRefused, IsRestoring, ReadsAgain}
-use Rattle.treiber_stack.specs.Refusing.{barring}
-use Rattle.treiber_stack.specs.Stack.{Stack, room_of, limit_of, machine_of, shape_of, begun_of, IsAt}
+use Rattle.treiber_stack.specs.declared.code.refusing.Barred.{Barred}
+use Rattle.treiber_stack.specs.declared.code.refusing.Barred.TheVariants.{Closed, Spent}
+use Rattle.treiber_stack.specs.code.Steps.{IsGiving, IsAt}
+use Rattle.treiber_stack.specs.code.Ranging.{putting, refused, IsNext, IsRefused, IsRestoring, ReadsAgain}
+use Rattle.treiber_stack.specs.code.Refusing.{barring}
+use Rattle.treiber_stack.specs.Calls.{Stack, room_of, limit_of, machine_of, shape_of, begun_of}
 use Rattle.treiber_stack.proofs.Gives.{moved}
 use Rattle.treiber_stack.proofs.Loading.{next_value}
 use Rattle.treiber_stack.proofs.Takes.{same_value}

@@ -1,17 +1,14 @@
 -- What a take gives, and where its steps lead.
 use Rattle.std.proofs.Common.{◌≡◌, ℕ, ◌<◌, List, ◌∷◌, refl, sym, ap, ◌∙◌}
 use Rattle.std.specs.Prelude.{Option as Slot, Some, Ok}
-use Rattle.stack_table.specs.Lines.{names, next}
-use Rattle.running.specs.Code.{Finding, Leads}
-use Rattle.running.specs.declared.access.Outcome.{Outcome}
-use Rattle.running.specs.declared.code.Next.{Next}
-use Rattle.treiber_stack.specs.declared.call_parts.giving.Give.{Give}
-use Rattle.treiber_stack.specs.declared.calls.taking.TakeAt.{TakeAt}
-use Rattle.treiber_stack.specs.declared.calls.taking.TakeAt.TheVariants.{GiveBack}
-use Rattle.treiber_stack.specs.declared.calls.taking.Taken.{Taken}
-use Rattle.treiber_stack.specs.Giving.{GaveTo}
-use Rattle.treiber_stack.specs.Stack.{Stack, room_of, limit_of, machine_of}
-use Rattle.treiber_stack.specs.Taking.{Answer, take_account, giving, take_line, take_slots}
+use Rattle.treiber_stack.specs.Prelude.{Finding, Leads, Next, Outcome, names, next}
+use Rattle.treiber_stack.specs.declared.code.giving.Give.{Give}
+use Rattle.treiber_stack.specs.declared.code.taking.TakeAt.{TakeAt}
+use Rattle.treiber_stack.specs.declared.code.taking.TakeAt.TheVariants.{GiveBack}
+use Rattle.treiber_stack.specs.declared.code.taking.Taken.{Taken}
+use Rattle.treiber_stack.specs.code.Steps.{GaveTo}
+use Rattle.treiber_stack.specs.Calls.{Stack, room_of, limit_of, machine_of}
+use Rattle.treiber_stack.specs.code.Taking.{Answer, take_account, giving, take_line, take_slots}
 use Rattle.treiber_stack.proofs.Gives.{within, gave_within}
 
 module _ {T : Type 0} where

@@ -3,33 +3,21 @@ use Rattle.std.proofs.Common.{◌≡◌, ◌≢◌, ℕ, ◌<◌, ◌≤◌, tru
 use Rattle.std.proofs.lemmas.List.{reverse-append, reverse-reverse, length-reverse}
 use Rattle.std.specs.Prelude.{Option as Slot, Ok, map}
 use mathlib.Core.Option.{some}
-use Rattle.tagged_index.specs.Fields.{fields_of, index_of, tag_of}
-use Rattle.tagged_index.specs.declared.word.TheConstants.{NULL}
-use Rattle.index_list.specs.Steps.{numbers}
-use Rattle.index_list.specs.declared.front.Front.{Front}
 use Rattle.index_list.specs.declared.front.Front.TheVariants.{First, Last}
-use Rattle.machine.specs.Chains.{first, values_of}
 use Rattle.machine.proofs.Chains.{times_reverse}
-use Rattle.machine.proofs.Lists.{times_append}
-use Rattle.machine.specs.Words.{times}
-use Rattle.stack_machine.specs.declared.lines.Answer.TheVariants.{Fold as AnswerFold}
 use Rattle.stack_machine.specs.declared.lines.Direction.{Direction}
 use Rattle.stack_machine.specs.declared.lines.Direction.TheVariants.{Down, Up}
-use Rattle.stack_machine.specs.declared.lines.Taking.TheVariants.{Whole}
-use Rattle.stack_machine.specs.declared.lines.Line.TheVariants.{LoadTopToTake, LoadLinkToTurn, LoadLinkToFold}
-use Rattle.stack_machine.specs.Deeds.{in_order}
-use Rattle.stack_table.specs.declared.operation.Operation.TheVariants.{Fold as FoldFirst}
-use Rattle.stack_table.specs.Lines.{direction, won_chain}
-use Rattle.stack_table.specs.Slots.{Links, IsHand, IsWhole, full}
-use Rattle.stack_table.proofs.Slots.{length_in_order, numbers_full, values_full}
-use Rattle.running.specs.Tables.{values as slot_values}
-use Rattle.running.specs.declared.access.Outcome.{Outcome}
-use Rattle.running.specs.declared.code.Next.TheVariants.{On}
+use Rattle.stack_table.specs.Lines.{won_chain}
+use Rattle.stack_table.specs.Slots.{IsWhole}
+use Rattle.stack_table.proofs.Slots.{numbers_full}
+use Rattle.treiber_stack.specs.Prelude.{AnswerFold, FoldFirst, Front, IsHand, Links, LoadLinkToFold, LoadLinkToTurn, LoadTopToTake, NULL, On, Outcome}
+use Rattle.treiber_stack.specs.Prelude.{Whole, direction, fields_of, first, full, in_order, index_of, length_in_order, numbers, slot_values, tag_of}
+use Rattle.treiber_stack.specs.Prelude.{times, times_append, values_full, values_of}
 use Rattle.treiber_stack.specs.declared.bulk.folding.Batch.{Batch}
 use Rattle.treiber_stack.specs.declared.bulk.folding.Walk.{Walk}
 use Rattle.treiber_stack.specs.declared.bulk.folding.FoldAt.TheVariants.{TakeAll, LoadToTurn, TurnLink, LoadToFold}
-use Rattle.treiber_stack.specs.Folding.{nodes_of, folded_of, folding, IsBatch, IsTurning}
-use Rattle.treiber_stack.specs.Stack.{Stack, room_of}
+use Rattle.treiber_stack.specs.code.Folding.{nodes_of, folded_of, folding, IsBatch, IsTurning}
+use Rattle.treiber_stack.specs.Calls.{Stack, room_of}
 use Rattle.treiber_stack.proofs.Folds.{Folding}
 use Rattle.treiber_stack.proofs.Walking.{is_there, goes_further, ends_here, walk_start}
 

@@ -1,26 +1,17 @@
 -- A fold's walk along its chain.
 use Rattle.std.proofs.Common.{◌≡◌, ◌≢◌, ℕ, suc, ◌+◌, ◌<◌, ◌≤◌, List, [], ◌∷◌, ◌++◌, length, refl, sym, ap, ◌∙◌, subst, append_assoc, append-nil, length-append, ne_eqb, eq-eqb, cond, arith}
 use Rattle.std.specs.Prelude.{take, Option as Slot, Some, None}
-use Rattle.atomic_table.specs.Table.{rest}
-use Rattle.tagged_index.specs.declared.word.TheConstants.{NULL}
-use Rattle.machine.specs.Words.{times}
-use Rattle.machine.specs.Chains.{first, last}
-use Rattle.machine.proofs.Chains.{first_in}
-use Rattle.machine.proofs.Lists.{times_here, times_append}
-use Rattle.stack_machine.specs.declared.lines.Line.TheVariants.{LoadLinkToFold, LoadFreeToGive}
-use Rattle.stack_table.specs.Slots.{Links, full, vacant}
-use Rattle.stack_table.proofs.Slots.{vacant_append}
-use Rattle.running.specs.declared.access.Outcome.{Outcome}
-use Rattle.running.specs.declared.code.Next.TheVariants.{Done}
+use Rattle.treiber_stack.specs.Prelude.{Done, Links, LoadFreeToGive, LoadLinkToFold, NULL, Outcome, first, first_in, full, last, rest, times}
+use Rattle.treiber_stack.specs.Prelude.{times_append, times_here, vacant, vacant_append}
 use Rattle.treiber_stack.specs.declared.bulk.folding.Batch.{Batch}
 use Rattle.treiber_stack.specs.declared.bulk.folding.Walk.{Walk}
 use Rattle.treiber_stack.specs.declared.bulk.folding.FoldAt.TheVariants.{LoadToFold, GiveBack}
 use Rattle.treiber_stack.specs.declared.bulk.folding.FoldStop.TheVariants.{Yields}
-use Rattle.treiber_stack.specs.declared.call_parts.giving.Chain.{Chain}
-use Rattle.treiber_stack.specs.declared.call_parts.giving.Give.TheVariants.{Load}
-use Rattle.treiber_stack.specs.Folding.{nodes_of, folded_of, folding, IsBatch, IsWalking, FoldTold}
-use Rattle.treiber_stack.specs.Giving.{AreNodes}
-use Rattle.treiber_stack.specs.Stack.{Stack, room_of, limit_of}
+use Rattle.treiber_stack.specs.declared.code.giving.Chain.{Chain}
+use Rattle.treiber_stack.specs.declared.code.giving.Give.TheVariants.{Load}
+use Rattle.treiber_stack.specs.code.Folding.{nodes_of, folded_of, folding, IsBatch, IsWalking, FoldTold}
+use Rattle.treiber_stack.specs.code.Giving.{AreNodes}
+use Rattle.treiber_stack.specs.Calls.{Stack, room_of, limit_of}
 use Rattle.treiber_stack.proofs.Folds.{Folding}
 
 abbrev value_of : {T : Type 0} → T → List (ℕ × Slot T) → T

@@ -9,7 +9,7 @@ impl<T: Drop + Send> Container<T> for Stack<T> {
     ghost use Rattle.bounded_model.proofs.Passes.{most_passes};
     ghost use Rattle.bounded_model.specs.declared.history.Order.TheVariants.{Lifo};
     ghost use Rattle.running.specs.Passes.{told_in};
-    ghost use Rattle.treiber_stack.specs.Stack.{IsNoteOf, IsPassOf, IsRootOf, pass_in, root_in, shape_of};
+    ghost use Rattle.treiber_stack.specs.Calls.{IsNoteOf, IsPassOf, IsRootOf, pass_in, root_in, shape_of};
 
     type Root = Root<T>;
 

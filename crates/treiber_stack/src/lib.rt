@@ -15,10 +15,9 @@
 #![tactic(auto)]
 
 mod bulk;
-mod call_parts;
 mod calls;
+mod code;
 mod container;
-mod fast_paths;
 mod life;
 mod naming;
 mod places;
@@ -28,12 +27,12 @@ mod stepwise;
 pub use bounded_model::{Folded, RangeRefused, Ranged};
 pub use bulk::fold_op::{FoldMade, FoldOp};
 pub use bulk::range_trying::{RangeMade, RangeOp};
-pub use calls::closing::{CloseOp, ShutOp};
-pub use calls::every::{AnyOp, StackAt};
+pub use code::closing::{CloseOp, ShutOp};
+pub use code::every::{AnyOp, StackAt};
 pub use calls::gauging::Gauge;
-pub use calls::looking::LookOp;
-pub use calls::putting::PutOp;
-pub use calls::taking::TakeOp;
+pub use code::looking::LookOp;
+pub use code::putting::PutOp;
+pub use code::taking::TakeOp;
 pub use life::rest::Rest;
 pub use life::stack::{Answered, Note, Pass, Root, Stack};
 pub use places::stack_places;

@@ -2,19 +2,19 @@
 ghost use Rattle.std.specs.Prelude.{◌≡◌};
 ghost use Rattle.machine.specs.Chains.{last as last_of};
 ghost use Rattle.stack_machine.specs.declared.lines.Giving.{Giving};
-ghost use Rattle.treiber_stack.specs.Closing.{mark_line};
-ghost use Rattle.treiber_stack.specs.Giving.{give_line};
-ghost use Rattle.treiber_stack.specs.Looking.{look_line};
-ghost use Rattle.treiber_stack.specs.Naming.{IsNextStep};
-ghost use Rattle.treiber_stack.specs.Putting.{put_line};
-ghost use Rattle.treiber_stack.specs.Taking.{take_line};
+ghost use Rattle.treiber_stack.specs.code.Closing.{mark_line};
+ghost use Rattle.treiber_stack.specs.code.Giving.{give_line};
+ghost use Rattle.treiber_stack.specs.code.Looking.{look_line};
+ghost use Rattle.treiber_stack.specs.code.Naming.{IsNextStep};
+ghost use Rattle.treiber_stack.specs.code.Putting.{put_line};
+ghost use Rattle.treiber_stack.specs.code.Taking.{take_line};
 
-use crate::call_parts::giving::Give;
-use crate::calls::closing::MarkAt;
-use crate::calls::every::{AnyOp, StackAt};
-use crate::calls::looking::LookAt;
-use crate::calls::putting::PutAt;
-use crate::calls::taking::TakeAt;
+use crate::code::giving::Give;
+use crate::code::closing::MarkAt;
+use crate::code::every::{AnyOp, StackAt};
+use crate::code::looking::LookAt;
+use crate::code::putting::PutAt;
+use crate::code::taking::TakeAt;
 use crate::life::stack::Stack;
 use step_names::{Location, Named, StepName};
 
@@ -78,7 +78,7 @@ fn look_name<T>(at: &LookAt) -> StepName
 }
 
 impl<T: Drop + Send> Named<T> for Stack<T> {
-    ghost use Rattle.treiber_stack.specs.Naming.{IsStep};
+    ghost use Rattle.treiber_stack.specs.code.Naming.{IsStep};
 
     ghost is_step = { IsStep };
 

@@ -12,7 +12,7 @@ pub struct Stacked {
 
 impl<T> Machine<T, Line<T>, Operation<T>> for Stacked {
     ghost use Rattle.stack_table.specs.Lines.{names};
-    ghost use Rattle.treiber_stack.specs.Limits.{machine_at};
+    ghost use Rattle.treiber_stack.specs.code.Machine.{machine_at};
 
     ghost names = { names };
 

@@ -1,14 +1,14 @@
 //! A stack's calls by single steps. One operation makes every call.
 ghost use Rattle.std.specs.Prelude.{◌≡◌};
 ghost use Rattle.bounded_model.specs.Stepping.{no_step};
-ghost use Rattle.treiber_stack.specs.Stack.{IsPassOf, pass_in};
-ghost use Rattle.treiber_stack.specs.Stepwise.{IsMakingCall, making};
+ghost use Rattle.treiber_stack.specs.Calls.{IsPassOf, pass_in, IsMakingCall, making};
 
-use crate::calls::closing::{Mark, MarkAt};
-use crate::calls::every::{AnyOp, StackAt};
-use crate::calls::looking::LookAt;
-use crate::calls::putting::{PutAt, put_operation};
-use crate::calls::taking::TakeAt;
+use crate::code::closing::{Mark, MarkAt};
+use crate::code::every::{AnyOp, StackAt};
+use crate::code::looking::LookAt;
+use crate::code::putting::PutAt;
+use crate::calls::putting::put_operation;
+use crate::code::taking::TakeAt;
 use crate::life::stack::{Pass, Stack};
 use bounded_model::{Command, Reply, Stepped, Stepwise};
 use running::Op;
@@ -48,7 +48,7 @@ impl<T> Stack<T> {
 }
 
 impl<T: Drop + Send> Stepwise<T> for Stack<T> {
-    ghost use Rattle.treiber_stack.specs.Stepwise.{IsMakingCall, making};
+    ghost use Rattle.treiber_stack.specs.Calls.{IsMakingCall, making};
 
     type Op = AnyOp<T>;
 

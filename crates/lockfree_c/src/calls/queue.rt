@@ -1,8 +1,6 @@
 //! A queue's calls, counts and gauges: each makes its fast path and then a bounded number of steps.
 ghost use Rattle.running.specs.Passes.{begun_of, pass_in};
-ghost use Rattle.ms_queue.specs.Counting.{IsCounting};
-ghost use Rattle.ms_queue.specs.Gauging.{IsGauging};
-ghost use Rattle.ms_queue.specs.Queue.{machine_of};
+ghost use Rattle.ms_queue.specs.Calls.{IsCounting, IsGauging, machine_of};
 ghost use Rattle.lockfree_c.specs.Queues.{CountTried, GaugeTried, WorkedAtMost, count_steps, gauge_steps};
 
 use crate::calls::{AtOnce, BeginsAny, Counts, Ends, Gauges, Handled, TakesBack, Tries};
@@ -102,7 +100,7 @@ impl Tries for Queue<u64> {
 impl BeginsAny for Queue<u64> {
     ghost use Rattle.lockfree_c.specs.Calls.{Begins};
     ghost use Rattle.lockfree_c.specs.Queues.{queue_reading};
-    ghost use Rattle.ms_queue.specs.Queue.{IsPassOf};
+    ghost use Rattle.ms_queue.specs.Calls.{IsPassOf};
 
     #[inline(always)]
     fn begin(&self, by: Pass<u64>, command: Command<u64>) -> AnyOp<u64>

@@ -1,8 +1,6 @@
 //! A ring's calls, counts and gauges: each makes its fast path and then a bounded number of steps.
 ghost use Rattle.running.specs.Passes.{begun_of, pass_in};
-ghost use Rattle.ring_queue.specs.Counting.{IsCounting};
-ghost use Rattle.ring_queue.specs.Gauging.{IsGauging};
-ghost use Rattle.ring_queue.specs.Ring.{machine_of};
+ghost use Rattle.ring_queue.specs.Calls.{IsCounting, IsGauging, machine_of};
 ghost use Rattle.lockfree_c.specs.Rings.{CountTried, GaugeTried, WorkedAtMost, count_steps, gauge_steps};
 
 use crate::calls::{AtOnce, BeginsAny, Counts, Ends, Gauges, Handled, TakesBack, Tries};
@@ -102,7 +100,7 @@ impl Tries for RingQueue<u64> {
 impl BeginsAny for RingQueue<u64> {
     ghost use Rattle.lockfree_c.specs.Calls.{Begins};
     ghost use Rattle.lockfree_c.specs.Rings.{ring_reading};
-    ghost use Rattle.ring_queue.specs.Ring.{IsPassOf};
+    ghost use Rattle.ring_queue.specs.Calls.{IsPassOf};
 
     #[inline(always)]
     fn begin(&self, by: Pass<u64>, command: Command<u64>) -> AnyOp<u64>

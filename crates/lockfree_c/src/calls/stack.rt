@@ -1,9 +1,8 @@
 //! A stack's calls and works: each makes its fast path and then a bounded number of steps.
 ghost use Rattle.std.specs.Prelude.{ℕ, List};
 ghost use Rattle.index_list.specs.declared.front.Front.{Front};
-ghost use Rattle.treiber_stack.specs.Copying.{IsCopying};
-ghost use Rattle.treiber_stack.specs.FoldOp.{IsFolding};
-ghost use Rattle.treiber_stack.specs.Stack.{begun_of};
+ghost use Rattle.treiber_stack.specs.Bulk.{IsCopying, IsFolding};
+ghost use Rattle.treiber_stack.specs.Calls.{begun_of};
 ghost use Rattle.running.specs.Passes.{pass_in};
 ghost use Rattle.lockfree_c.specs.Stacks.{CopiedOn, FoldTried, WorkedAtMost, bulk_steps};
 
@@ -112,7 +111,7 @@ impl Tries for Stack<u64> {
 impl BeginsAny for Stack<u64> {
     ghost use Rattle.lockfree_c.specs.Calls.{Begins};
     ghost use Rattle.lockfree_c.specs.Stacks.{stack_reading};
-    ghost use Rattle.treiber_stack.specs.Stack.{IsPassOf};
+    ghost use Rattle.treiber_stack.specs.Calls.{IsPassOf};
 
     #[inline(always)]
     fn begin(&self, by: Pass<u64>, command: Command<u64>) -> AnyOp<u64>

@@ -1,4 +1,4 @@
-//! Closing a queue: the link of its last node gets the mark. By steps, and by a whole call.
+//! Closing a queue: the link of its last node gets the mark.
 ghost use Rattle.std.specs.Prelude.{◌≡◌};
 ghost use Rattle.bounded_model.specs.Laws.{Answers, CloseGives};
 ghost use Rattle.bounded_model.specs.Stepping.{no_step};
@@ -6,33 +6,16 @@ ghost use Rattle.bounded_model.specs.declared.commands.Command.TheVariants.{Clos
 ghost use Rattle.bounded_model.specs.declared.views.Answered.TheVariants.{Close as CloseAnswered};
 ghost use Rattle.running.specs.Kept.{HasNewCall, WasRun};
 ghost use Rattle.running.specs.Ops.{underway_of};
-ghost use Rattle.ms_queue.specs.Calls.{is_call};
-ghost use Rattle.ms_queue.specs.Closing.{IsClosing, close_account};
-ghost use Rattle.ms_queue.specs.Queue.{IsPassOf, machine_of, pass_in, shape_of};
+ghost use Rattle.ms_queue.specs.code.Machine.{is_call};
+ghost use Rattle.ms_queue.specs.Calls.{IsClosing, IsPassOf, machine_of, pass_in, shape_of};
+ghost use Rattle.ms_queue.specs.code.Closing.{close_account};
 
-use crate::call_parts::seeking::{End, Seek, seek_access, seek_on};
-use crate::life::queue::{Answered, Pass, Queue};
-use crate::rule::Queued;
-use atomic_table::Seat;
-use machine::seats::View;
-use queue_machine::Line;
+use crate::code::closing::{CloseAt, CloseOp};
+use crate::code::seeking::Seek;
+use crate::life::queue::{Pass, Queue};
 use queue_table::Operation;
-use queue_table::layout::next;
-use running::{Access, Code, Next, Op, Outcome, Replies, raised, whole};
+use running::{Next, Op, whole};
 use std::sync::Wait;
-use tagged_index::{NULL, Tagged};
-
-/// A close that was begun.
-pub type CloseOp<T> = Op<T, Line<T>, Operation<T>, CloseAt>;
-
-/// The next step of a close.
-#[derive(Drop)]
-pub enum CloseAt {
-    /// On the way to the end of the chain.
-    Seeking(Seek),
-    /// Compare-and-swap the last node's `next` for null with the mark.
-    Mark(Tagged, Tagged),
-}
 
 impl<T> Queue<T> {
     /// Begins a close, and makes no step yet. If the operation is dropped, its pass goes with it.
@@ -71,66 +54,4 @@ impl<T> Queue<T> {
         } = self.begin_close(by);
         whole(rt, self, (pass, Next::On(at)), operation)
     }
-}
-
-impl<T> Code<Queue<T>, T, Line<T>, Operation<T>, Queued, Answered<bool>, 2> for CloseAt {
-    ghost use Rattle.ms_queue.specs.Closing.{close_account};
-
-    ghost account = { close_account };
-
-    #[inline(always)]
-    fn access(&self, on: &Queue<T>) -> Access {
-        match self {
-            CloseAt::Seeking(at) => seek_access(on, at),
-            CloseAt::Mark(tail, link) => {
-                let new = raised(*link, NULL).marked();
-                Access::Swap(next(tail.index()), *link, new)
-            }
-        }
-    }
-
-    #[inline(always)]
-    fn next(
-        self,
-        on: &Queue<T>,
-        _seat: &mut Seat<Option<T>, View<T, Line<T>>>,
-        outcome: Outcome,
-    ) -> Next<CloseAt, Answered<bool>> {
-        match self {
-            CloseAt::Seeking(at) => match seek_on(on, at, outcome) {
-                Next::On(at) => Next::On(CloseAt::Seeking(at)),
-                Next::Lost(at) => Next::Lost(CloseAt::Seeking(at)),
-                Next::Done(end) => match end {
-                    End::Closed(_) => Next::Done(Answered {
-                        kept: (),
-                        reply: false,
-                    }),
-                    End::Open(tail, link) => Next::On(CloseAt::Mark(tail, link)),
-                },
-            },
-            CloseAt::Mark(_, _) => {
-                if !outcome.won {
-                    return Next::Lost(CloseAt::Seeking(Seek::LoadTail));
-                }
-                // The close has its effect here.
-                Next::Done(Answered {
-                    kept: (),
-                    reply: true,
-                })
-            }
-        }
-    }
-}
-
-impl<T> Replies<Queue<T>, T, Line<T>, Operation<T>, Queued, (), bool, 2> for CloseAt {
-    ghost use Rattle.std.specs.Prelude.{refl};
-    ghost use Rattle.ms_queue.specs.KeepsAnswers.{close_given, close_promises};
-
-    ghost gives = { close_promises };
-
-    ghost idle = { λ key o answer. refl };
-
-    ghost given = { close_given };
-
-    ghost kept = { λ key o answer. tt };
 }

@@ -1,4 +1,4 @@
-//! How many values a queue holds: by steps, and by a whole call.
+//! How many values a queue holds.
 ghost use Rattle.std.specs.Prelude.{◌≡◌, ◌≤◌, ◌+◌};
 ghost use Rattle.bounded_model.specs.Laws.{Answers, LenGives};
 ghost use Rattle.bounded_model.specs.Stepping.{MatchStepped, no_step};
@@ -7,41 +7,17 @@ ghost use Rattle.queue_machine.specs.declared.lines.Answer.TheVariants.{Len as A
 ghost use Rattle.queue_table.specs.declared.operation.Operation.TheVariants.{Len as LenFirst};
 ghost use Rattle.running.specs.Ops.{underway_of};
 ghost use Rattle.running.specs.Passes.{pass_in as pass_now};
-ghost use Rattle.ms_queue.specs.Counting.{IsCounting, LenRan};
-ghost use Rattle.ms_queue.specs.Queue.{IsPassOf, machine_of, pass_in, shape_of};
+ghost use Rattle.ms_queue.specs.Calls.{IsCounting, IsPassOf, machine_of, pass_in, shape_of, WasRun, LenTried};
+ghost use Rattle.ms_queue.specs.code.Steps.{LenRan};
 ghost use Rattle.running.specs.Kept.{HasNewCall};
-ghost use Rattle.ms_queue.specs.Ran.{WasRun};
-ghost use Rattle.ms_queue.specs.Trying.{LenTried};
 
+use crate::code::counting::{LenAt, LenOp};
 use crate::life::queue::{Answered, Pass, Queue};
-use crate::rule::Queued;
-use atomic_table::Seat;
 use bounded_model::Stepped;
-use machine::View;
 use queue_machine::Line;
 use queue_table::Operation;
-use queue_table::layout::{HEAD, TAIL, next};
-use running::{
-    Access, Code, Next, Op, Outcome, Replies, any, aside, fast_step, first_step, leave, whole,
-};
+use running::{Next, Op, any, aside, fast_step, first_step, leave, whole};
 use std::sync::Wait;
-use tagged_index::{NULL, Tagged};
-
-/// A count that was begun.
-pub type LenOp<T> = Op<T, Line<T>, Operation<T>, LenAt>;
-
-/// The next step of a count, with what it has read.
-#[derive(Drop)]
-pub enum LenAt {
-    /// Load `HEAD`.
-    LoadHead,
-    /// Load `TAIL`.
-    LoadTail(Tagged),
-    /// Load `next` of the node that it named.
-    LoadNext(Tagged, Tagged),
-    /// Load `HEAD` again.
-    CheckHead(Tagged, Tagged, Tagged),
-}
 
 impl<T> Queue<T> {
     /// How many values the queue held at some time since its pass's last step before the call, from
@@ -115,63 +91,4 @@ fn len_fast<T>(
         LenAt::CheckHead(head, tail, link) => head, tail, link
     );
     any(table, on, pass, LenAt::CheckHead(head, tail, link), len)
-}
-
-impl<T> Code<Queue<T>, T, Line<T>, Operation<T>, Queued, Answered<u64>, 2> for LenAt {
-    ghost use Rattle.ms_queue.specs.Counting.{len_account};
-
-    ghost account = { len_account };
-
-    #[inline(always)]
-    fn access(&self, _on: &Queue<T>) -> Access {
-        match self {
-            LenAt::LoadHead => Access::Load(HEAD),
-            LenAt::LoadTail(_) => Access::Load(TAIL),
-            LenAt::LoadNext(_, tail) => Access::Load(next(tail.index())),
-            LenAt::CheckHead(_, _, _) => Access::Load(HEAD),
-        }
-    }
-
-    #[inline(always)]
-    fn next(
-        self,
-        _on: &Queue<T>,
-        _seat: &mut Seat<Option<T>, View<T, Line<T>>>,
-        outcome: Outcome,
-    ) -> Next<LenAt, Answered<u64>> {
-        let found = Tagged::from_word(outcome.word);
-        match self {
-            LenAt::LoadHead => Next::On(LenAt::LoadTail(found)),
-            LenAt::LoadTail(head) => Next::On(LenAt::LoadNext(head, found)),
-            LenAt::LoadNext(head, tail) => Next::On(LenAt::CheckHead(head, tail, found)),
-            LenAt::CheckHead(head, tail, link) => {
-                // If no take was made, the node of the tail was in the queue all the time.
-                if outcome.word != head.word() {
-                    return Next::Lost(LenAt::LoadHead);
-                }
-                let end = if link.index() == NULL {
-                    tail.tag()
-                } else {
-                    tail.tag() + 1
-                };
-                Next::Done(Answered {
-                    kept: (),
-                    reply: end.saturating_sub(head.tag()),
-                })
-            }
-        }
-    }
-}
-
-impl<T> Replies<Queue<T>, T, Line<T>, Operation<T>, Queued, (), u64, 2> for LenAt {
-    ghost use Rattle.std.specs.Prelude.{refl};
-    ghost use Rattle.ms_queue.specs.KeepsGauge.{len_given, len_promises};
-
-    ghost gives = { len_promises };
-
-    ghost idle = { λ key o answer. refl };
-
-    ghost given = { len_given };
-
-    ghost kept = { λ key o answer. tt };
 }

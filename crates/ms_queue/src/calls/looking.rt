@@ -1,4 +1,4 @@
-//! Looking whether a queue is empty: by steps, and by a whole call.
+//! Looking whether a queue is empty.
 ghost use Rattle.std.specs.Prelude.{◌≡◌, ◌≤◌, ◌+◌};
 ghost use Rattle.bounded_model.specs.Laws.{Answers, LookGives};
 ghost use Rattle.bounded_model.specs.Stepping.{MatchStepped, no_step};
@@ -7,36 +7,43 @@ ghost use Rattle.bounded_model.specs.declared.views.Answered.TheVariants.{Look a
 ghost use Rattle.running.specs.Kept.{HasNewCall, WasRun};
 ghost use Rattle.running.specs.Ops.{underway_of};
 ghost use Rattle.running.specs.Passes.{pass_in as pass_now};
-ghost use Rattle.ms_queue.specs.Calls.{is_call};
-ghost use Rattle.ms_queue.specs.Looking.{IsLooking, look_account};
-ghost use Rattle.ms_queue.specs.Queue.{IsPassOf, machine_of, pass_in, shape_of};
-ghost use Rattle.ms_queue.specs.Trying.{LookTried};
+ghost use Rattle.ms_queue.specs.code.Machine.{is_call};
+ghost use Rattle.ms_queue.specs.Calls.{IsLooking, IsPassOf, machine_of, pass_in, shape_of, LookTried};
+ghost use Rattle.ms_queue.specs.code.Looking.{look_account};
+ghost use Rattle.ms_queue.specs.code.Steps.{LookRan};
+ghost use Rattle.queue_table.specs.declared.operation.Operation.TheVariants.{Look as LookFirst};
 
-use crate::fast_paths::look_fast::look_fast;
+use crate::code::looking::{LookAt, LookOp};
 use crate::life::queue::{Answered, Pass, Queue};
-use crate::rule::Queued;
-use atomic_table::Seat;
 use bounded_model::Stepped;
-use machine::seats::View;
 use queue_machine::Line;
 use queue_table::Operation;
-use queue_table::layout::{HEAD, next};
-use running::{Access, Code, Next, Op, Outcome, Replies, leave, whole};
+use running::{Next, Op, any, aside, fast_step, first_step, leave, whole};
 use std::sync::Wait;
-use tagged_index::{NULL, Tagged};
 
-/// A look that was begun.
-pub type LookOp<T> = Op<T, Line<T>, Operation<T>, LookAt>;
-
-/// The next step of a look.
-#[derive(Drop)]
-pub enum LookAt {
-    /// Load `HEAD`.
-    LoadHead,
-    /// Load `next` of the node that it named.
-    LoadNext(Tagged),
-    /// Load `HEAD` again.
-    CheckHead(Tagged, Tagged),
+/// A look's three loads, as long as no other pass changes the head.
+#[inline(always)]
+pub(crate) fn look_fast<T>(
+    on: &Queue<T>,
+    by: Pass<T>,
+    look: &Operation<T>,
+) -> (running::Pass<T, Line<T>>, Next<LookAt, Answered<bool>>)
+    requires named { look.now ≡ LookFirst }
+    requires pass { IsPassOf on.now by }
+    ensures ran { LookRan on.now look.now by.pass result.0 result.1 }
+    ensures took { (pass_now result.0).steps ≤ (pass_now by.pass).steps + 3 }
+{
+    let Pass { pass, .. } = by;
+    let table = &on.table.shared;
+    let (pass, head) = fast_step!(
+        first_step(table, on, pass, LookAt::LoadHead, look),
+        LookAt::LoadNext(head) => head
+    );
+    let (pass, head, link) = fast_step!(
+        any(table, on, pass, LookAt::LoadNext(head), look),
+        LookAt::CheckHead(head, link) => head, link
+    );
+    any(table, on, pass, LookAt::CheckHead(head, link), look)
 }
 
 impl<T> Queue<T> {
@@ -81,57 +88,4 @@ impl<T> Queue<T> {
         let first = look_fast(self, by, &look);
         leave(self, first, look)
     }
-}
-
-impl<T> Code<Queue<T>, T, Line<T>, Operation<T>, Queued, Answered<bool>, 2> for LookAt {
-    ghost use Rattle.ms_queue.specs.Looking.{look_account};
-
-    ghost account = { look_account };
-
-    #[inline(always)]
-    fn access(&self, _on: &Queue<T>) -> Access {
-        match self {
-            LookAt::LoadHead => Access::Load(HEAD),
-            LookAt::LoadNext(head) => Access::Load(next(head.index())),
-            LookAt::CheckHead(_, _) => Access::Load(HEAD),
-        }
-    }
-
-    #[inline(always)]
-    fn next(
-        self,
-        _on: &Queue<T>,
-        _seat: &mut Seat<Option<T>, View<T, Line<T>>>,
-        outcome: Outcome,
-    ) -> Next<LookAt, Answered<bool>> {
-        match self {
-            LookAt::LoadHead => Next::On(LookAt::LoadNext(Tagged::from_word(outcome.word))),
-            LookAt::LoadNext(head) => {
-                Next::On(LookAt::CheckHead(head, Tagged::from_word(outcome.word)))
-            }
-            LookAt::CheckHead(head, link) => {
-                // If the head is still the same, the link was that of the dummy.
-                if outcome.word != head.word() {
-                    return Next::Lost(LookAt::LoadHead);
-                }
-                Next::Done(Answered {
-                    kept: (),
-                    reply: link.index() == NULL,
-                })
-            }
-        }
-    }
-}
-
-impl<T> Replies<Queue<T>, T, Line<T>, Operation<T>, Queued, (), bool, 2> for LookAt {
-    ghost use Rattle.std.specs.Prelude.{refl};
-    ghost use Rattle.ms_queue.specs.KeepsAnswers.{look_given, look_promises};
-
-    ghost gives = { look_promises };
-
-    ghost idle = { λ key o answer. refl };
-
-    ghost given = { look_given };
-
-    ghost kept = { λ key o answer. tt };
 }

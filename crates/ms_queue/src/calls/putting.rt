@@ -1,5 +1,26 @@
-//! Putting one value: by steps, and by a whole call. While the put has a cell, the value is in the
-//! cell's slot, and a snapshot shows it to proofs.
+//! Putting one value: `enqueue` of Michael and Scott (PODC 1996), whose line numbers are E1 to E17.
+//!
+//! What a put does if no other pass is faster, by the functions that follow:
+//! 1. `put_fast_cell`: takes a free cell from the list of free cells, and the value moves into the
+//!    cell's slot. (In the paper the value stands in the node.)
+//! 2. `put_fast_node`: takes a free node (E1).
+//! 3. `put_fast_prepare`: stores the cell in the node (E2), and null with the next tag in the node's
+//!    `next` (E3).
+//! 4. `put_fast_seek`: loads `TAIL` (E5) and the `next` of the last node (E6), and sees that `TAIL`
+//!    is still the same (E7) and the link null (E8).
+//! 5. `put_fast_link`: exchanges that null for the node (E9), which is the put's effect, and swings
+//!    `TAIL` to the node (E17).
+//!
+//! If no cell is free, `put_fast_refuse` goes to the end of the chain to see whether the queue was
+//! full or closed. If another pass was faster, the put is at some state of `PutAt`, and continues
+//! from there (code/putting.rt): it takes another cell or node, helps a tail that lags behind (E13)
+//! and seeks the end again (E4). If the queue is closed, or a tag at its limit, it gives the node and
+//! the cell back, and the value is moved out of the slot and handed back.
+//!
+//! The steps are those of `next` in code/putting.rt: change these first. They are repeated here
+//! because a loop over states keeps its state in memory, and in parts of three steps because the
+//! compiler would not keep longer chains in their caller. The measure is the number of instructions
+//! of a put and a take in turn on one thread.
 ghost use Rattle.std.specs.Prelude.{◌≡◌, ◌≤◌, ◌+◌};
 ghost use Rattle.bounded_model.specs.Laws.{Answers, PutGives, put_answered};
 ghost use Rattle.bounded_model.specs.Stepping.{MatchStepped, no_step};
@@ -7,83 +28,215 @@ ghost use Rattle.bounded_model.specs.declared.commands.Command.TheVariants.{Put 
 ghost use Rattle.running.specs.Kept.{HasNewCall, WasRun};
 ghost use Rattle.running.specs.Ops.{underway_of};
 ghost use Rattle.running.specs.Passes.{pass_in as pass_now};
-ghost use Rattle.tagged_index.specs.Fields.{number};
-ghost use Rattle.tagged_index.specs.declared.word.TheConstants.{MAX_TAG};
-ghost use Rattle.queue_machine.specs.Machine.{null_word};
 ghost use Rattle.queue_machine.specs.declared.lines.Call.TheVariants.{Put as CallPut};
 ghost use Rattle.queue_table.specs.Lines.{call_of};
-ghost use Rattle.ms_queue.specs.Calls.{is_call, put_of};
-ghost use Rattle.ms_queue.specs.Putting.{IsPutting, put_account};
-ghost use Rattle.ms_queue.specs.Queue.{IsPassOf, machine_of, pass_in, shape_of};
-ghost use Rattle.ms_queue.specs.Trying.{PutTried};
+ghost use Rattle.ms_queue.specs.code.Machine.{is_call, put_of};
+ghost use Rattle.ms_queue.specs.Calls.{IsPutting, IsPassOf, machine_of, pass_in, shape_of, PutTried};
+ghost use Rattle.ms_queue.specs.code.Putting.{put_account};
+ghost use Rattle.ms_queue.specs.code.Steps.{PutStands, PutRan};
+ghost use Rattle.ms_queue.specs.declared.code.putting.PutAt.TheVariants.{LoadNodes};
 
-use crate::call_parts::giving::{Give, Held, give_access, give_next};
-use crate::call_parts::seeking::{End, Seek, seek_access, seek_on};
-use crate::fast_paths::put_fast::put_fast;
+use crate::code::putting::{Answer, PutAt, PutOp};
+use crate::code::seeking::Seek;
 use crate::life::queue::{Answered, Pass, Queue};
-use crate::rule::Queued;
-use atomic_table::Seat;
-use bounded_model::{PutRefused, Stepped, Word};
-use index_list::{move_out, put_in};
-use machine::seats::View;
+use bounded_model::{PutRefused, Stepped};
 use queue_machine::Line;
 use queue_table::Operation;
-use queue_table::layout::{CELL_LIST, NODE_LIST, TAIL, cell, next};
-use running::{Access, Code, Next, Op, Outcome, Replies, leave, raised, told, whole};
+use running::{Next, Op, any, aside, fast_step, first_step, leave, told, whole};
 use std::snapshot::Snapshot;
 use std::sync::Wait;
-use tagged_index::{NULL, Tagged};
 
-/// A put that was begun.
-pub type PutOp<T> = Op<T, Line<T>, Operation<T>, PutAt<T>>;
-
-/// The next step of a put, with what it has read and holds.
-#[derive(Drop)]
-pub enum PutAt<T> {
-    /// Load `CELLS`.
-    LoadCells(T),
-    /// Load the link of the free cell.
-    LoadCellLink(T, Tagged),
-    /// Compare-and-swap `CELLS` for the next free cell.
-    TakeCell(T, Tagged, u32),
-    /// No cell is free: go to the end of the chain, to say why nothing can be put.
-    Refusing(T, Seek),
-    /// Load `NODES`.
-    LoadNodes(Snapshot<T>, u32),
-    /// Load the link of the free node.
-    LoadNodeLink(Snapshot<T>, u32, Tagged),
-    /// Compare-and-swap `NODES` for the next free node.
-    TakeNode(Snapshot<T>, u32, Tagged, u32),
-    /// Store the cell in the node.
-    StoreCell(Snapshot<T>, Held),
-    /// Load the node's `next`.
-    LoadNext(Snapshot<T>, Held),
-    /// Store null with the next tag in it.
-    PrepareNext(Snapshot<T>, Held, Tagged),
-    /// Go to the end of the chain.
-    Seeking(Snapshot<T>, Held, Seek),
-    /// Compare-and-swap the last node's `next` for the node.
-    LinkNext(Snapshot<T>, Held, Tagged, Tagged),
-    /// The value is put. Compare-and-swap `TAIL` for the node that has it; the second word is the
-    /// link.
-    SwingTail(Snapshot<T>, Tagged, Tagged),
-    /// Give the node and the cell back, or the cell alone.
-    GiveBack(PutRefused<T>, Held, Give),
+/// A put's steps on its fast path, as long as no other pass is faster. If no cell is free, these
+/// are the steps that say why nothing can be put.
+#[inline(always)]
+pub(crate) fn put_fast<T>(
+    on: &Queue<T>,
+    by: Pass<T>,
+    value: T,
+    put: &Operation<T>,
+) -> (
+    running::Pass<T, Line<T>>,
+    Next<PutAt<T>, Answered<Answer<T>>>,
+)
+    requires named { put.now ≡ put_of value }
+    requires pass { IsPassOf on.now by }
+    ensures ran { PutRan on.now put.now by.pass result.0 result.1 }
+    ensures took { (pass_now result.0).steps ≤ (pass_now by.pass).steps + 14 }
+{
+    let (pass, at) = fast_step!(put_fast_cell(on, by, value, put));
+    let PutAt::LoadNodes(shown, cell) = at else {
+        return put_fast_refuse(on, pass, at, put);
+    };
+    let (pass, at) = fast_step!(put_fast_node(on, pass, shown, cell, put));
+    let (pass, at) = fast_step!(put_fast_prepare(on, pass, at, put));
+    let (pass, at) = fast_step!(put_fast_seek(on, pass, at, put));
+    put_fast_link(on, pass, at, put)
 }
 
-/// What a put answers.
-pub(crate) type Answer<T> = Result<u64, PutRefused<T>>;
-
-// Null with this tag.
-#[inline(always)]
-fn null_word(tag: u64) -> u64
-    requires { tag ≤ MAX_TAG }
-    ensures { result ≡ number (null_word tag) }
+// First the steps that take a cell.
+#[inline]
+fn put_fast_cell<T>(
+    on: &Queue<T>,
+    by: Pass<T>,
+    value: T,
+    put: &Operation<T>,
+) -> (
+    running::Pass<T, Line<T>>,
+    Next<PutAt<T>, Answered<Answer<T>>>,
+)
+    requires named { put.now ≡ put_of value }
+    requires pass { IsPassOf on.now by }
+    ensures ran { PutRan on.now put.now by.pass result.0 result.1 }
+    ensures took { (pass_now result.0).steps ≤ (pass_now by.pass).steps + 3 }
 {
-    match Tagged::of(NULL, false, false, tag) {
-        Some(word) => word.word(),
-        None => unreachable!(),
-    }
+    let Pass { pass, .. } = by;
+    let table = &on.table.shared;
+    let (pass, value, cells) = fast_step!(
+        first_step(table, on, pass, PutAt::LoadCells(value), put),
+        PutAt::LoadCellLink(value, cells) => value, cells
+    );
+    let (pass, value, cells, link) = fast_step!(
+        any(table, on, pass, PutAt::LoadCellLink(value, cells), put),
+        PutAt::TakeCell(value, cells, link) => value, cells, link
+    );
+    any(table, on, pass, PutAt::TakeCell(value, cells, link), put)
+}
+
+// The steps that say why nothing can be put, if no cell is free.
+#[inline]
+fn put_fast_refuse<T>(
+    on: &Queue<T>,
+    by: running::Pass<T, Line<T>>,
+    no_cell: PutAt<T>,
+    put: &Operation<T>,
+) -> (
+    running::Pass<T, Line<T>>,
+    Next<PutAt<T>, Answered<Answer<T>>>,
+)
+    requires stands { PutStands on.now put.now by no_cell }
+    ensures ran { PutRan on.now put.now by result.0 result.1 }
+    ensures took { (pass_now result.0).steps ≤ (pass_now by).steps + 3 }
+{
+    let PutAt::Refusing(value, Seek::LoadTail) = no_cell else {
+        return (by, Next::On(no_cell));
+    };
+    let table = &on.table.shared;
+    let begun = PutAt::Refusing(value, Seek::LoadTail);
+    let (pass, at) = fast_step!(any(table, on, by, begun, put));
+    let (pass, at) = fast_step!(any(table, on, pass, at, put));
+    any(table, on, pass, at, put)
+}
+
+// Then the steps that take a node (E1).
+#[inline]
+fn put_fast_node<T>(
+    on: &Queue<T>,
+    by: running::Pass<T, Line<T>>,
+    shown: Snapshot<T>,
+    cell: u32,
+    put: &Operation<T>,
+) -> (
+    running::Pass<T, Line<T>>,
+    Next<PutAt<T>, Answered<Answer<T>>>,
+)
+    requires stands { PutStands on.now put.now by (LoadNodes shown cell) }
+    ensures ran { PutRan on.now put.now by result.0 result.1 }
+    ensures took { (pass_now result.0).steps ≤ (pass_now by).steps + 3 }
+{
+    let table = &on.table.shared;
+    let (pass, shown, cell, nodes) = fast_step!(
+        any(table, on, by, PutAt::LoadNodes(shown, cell), put),
+        PutAt::LoadNodeLink(shown, cell, nodes) => shown, cell, nodes
+    );
+    let (pass, at) = fast_step!(any(
+        table,
+        on,
+        pass,
+        PutAt::LoadNodeLink(shown, cell, nodes),
+        put,
+    ));
+    any(table, on, pass, at, put)
+}
+
+// The steps that prepare the node (E2, E3).
+#[inline]
+fn put_fast_prepare<T>(
+    on: &Queue<T>,
+    by: running::Pass<T, Line<T>>,
+    held: PutAt<T>,
+    put: &Operation<T>,
+) -> (
+    running::Pass<T, Line<T>>,
+    Next<PutAt<T>, Answered<Answer<T>>>,
+)
+    requires stands { PutStands on.now put.now by held }
+    ensures ran { PutRan on.now put.now by result.0 result.1 }
+    ensures took { (pass_now result.0).steps ≤ (pass_now by).steps + 3 }
+{
+    let PutAt::StoreCell(shown, held) = held else {
+        return (by, Next::On(held));
+    };
+    let table = &on.table.shared;
+    let (pass, at) = fast_step!(any(table, on, by, PutAt::StoreCell(shown, held), put));
+    let (pass, shown, held, link) = fast_step!(
+        any(table, on, pass, at, put),
+        PutAt::PrepareNext(shown, held, link) => shown, held, link
+    );
+    any(table, on, pass, PutAt::PrepareNext(shown, held, link), put)
+}
+
+// The steps that go to the end of the chain (E5 to E8).
+#[inline]
+fn put_fast_seek<T>(
+    on: &Queue<T>,
+    by: running::Pass<T, Line<T>>,
+    prepared: PutAt<T>,
+    put: &Operation<T>,
+) -> (
+    running::Pass<T, Line<T>>,
+    Next<PutAt<T>, Answered<Answer<T>>>,
+)
+    requires stands { PutStands on.now put.now by prepared }
+    ensures ran { PutRan on.now put.now by result.0 result.1 }
+    ensures took { (pass_now result.0).steps ≤ (pass_now by).steps + 3 }
+{
+    let PutAt::Seeking(shown, held, Seek::LoadTail) = prepared else {
+        return (by, Next::On(prepared));
+    };
+    let table = &on.table.shared;
+    let begun = PutAt::Seeking(shown, held, Seek::LoadTail);
+    let (pass, at) = fast_step!(any(table, on, by, begun, put));
+    let (pass, at) = fast_step!(any(table, on, pass, at, put));
+    any(table, on, pass, at, put)
+}
+
+// The steps that link the node there (E9) and swing the tail (E17).
+#[inline]
+fn put_fast_link<T>(
+    on: &Queue<T>,
+    by: running::Pass<T, Line<T>>,
+    there: PutAt<T>,
+    put: &Operation<T>,
+) -> (
+    running::Pass<T, Line<T>>,
+    Next<PutAt<T>, Answered<Answer<T>>>,
+)
+    requires stands { PutStands on.now put.now by there }
+    ensures ran { PutRan on.now put.now by result.0 result.1 }
+    ensures took { (pass_now result.0).steps ≤ (pass_now by).steps + 2 }
+{
+    let PutAt::LinkNext(shown, held, tail, link) = there else {
+        return (by, Next::On(there));
+    };
+    let table = &on.table.shared;
+    let (pass, at) = fast_step!(any(
+        table,
+        on,
+        by,
+        PutAt::LinkNext(shown, held, tail, link),
+        put,
+    ));
+    any(table, on, pass, at, put)
 }
 
 /// The put of this value.
@@ -162,180 +315,4 @@ impl<T> Queue<T> {
             under_way => leave(self, under_way, put),
         }
     }
-}
-
-impl<T> Code<Queue<T>, T, Line<T>, Operation<T>, Queued, Answered<Answer<T>>, 2> for PutAt<T> {
-    ghost use Rattle.ms_queue.specs.Putting.{put_account};
-
-    ghost account = { put_account };
-
-    #[inline]
-    fn is_refusal(answer: &Answered<Answer<T>>) -> bool {
-        answer.reply.is_err()
-    }
-
-    #[inline(always)]
-    fn access(&self, on: &Queue<T>) -> Access {
-        match self {
-            PutAt::LoadCells(_) => Access::LoadTop(CELL_LIST),
-            PutAt::LoadCellLink(_, cells) => Access::LoadLink(CELL_LIST, cells.index()),
-            PutAt::TakeCell(_, cells, link) => Access::Take(CELL_LIST, *cells, *link),
-            PutAt::Refusing(_, at) => seek_access(on, at),
-            PutAt::LoadNodes(_, _) => Access::LoadTop(NODE_LIST),
-            PutAt::LoadNodeLink(_, _, nodes) => Access::LoadLink(NODE_LIST, nodes.index()),
-            PutAt::TakeNode(_, _, nodes, link) => Access::TakeBare(NODE_LIST, *nodes, *link),
-            PutAt::StoreCell(_, held) => Access::Keep(cell(held.node), held.cell as u64),
-            PutAt::LoadNext(_, held) => Access::Load(next(held.node)),
-            PutAt::PrepareNext(_, held, link) => {
-                Access::Store(next(held.node), null_word(link.tag() + 1))
-            }
-            PutAt::Seeking(_, _, at) => seek_access(on, at),
-            PutAt::LinkNext(_, held, tail, link) => {
-                Access::Return(next(tail.index()), *link, raised(*link, held.node))
-            }
-            PutAt::SwingTail(_, tail, link) => {
-                Access::Swap(TAIL, *tail, raised(*tail, link.index()))
-            }
-            PutAt::GiveBack(_, held, at) => give_access(on, *held, at),
-        }
-    }
-
-    #[inline(always)]
-    fn next(
-        self,
-        on: &Queue<T>,
-        seat: &mut Seat<Option<T>, View<T, Line<T>>>,
-        outcome: Outcome,
-    ) -> Next<PutAt<T>, Answered<Answer<T>>> {
-        match self {
-            PutAt::LoadCells(value) => {
-                let cells = Tagged::from_word(outcome.word);
-                if cells.index() == NULL {
-                    return Next::On(PutAt::Refusing(value, Seek::LoadTail));
-                }
-                if cells.tag() >= on.limits.tag_limit() {
-                    return Next::Done(Answered {
-                        kept: (),
-                        reply: Err(PutRefused::Spent(value, Word::Cells, cells.tag())),
-                    });
-                }
-                Next::On(PutAt::LoadCellLink(value, cells))
-            }
-            PutAt::LoadCellLink(value, cells) => {
-                Next::On(PutAt::TakeCell(value, cells, outcome.word as u32))
-            }
-            PutAt::TakeCell(value, cells, _) => {
-                if !outcome.won {
-                    return Next::Lost(PutAt::LoadCells(value));
-                }
-                // With the cell comes its slot, and the value moves in.
-                let cell = cells.index();
-                let shown = Snapshot::of(&value);
-                put_in(&on.table.shared, seat, cell, value);
-                Next::On(PutAt::LoadNodes(shown, cell))
-            }
-            PutAt::Refusing(value, at) => match seek_on(on, at, outcome) {
-                Next::On(at) => Next::On(PutAt::Refusing(value, at)),
-                Next::Lost(at) => Next::Lost(PutAt::Refusing(value, at)),
-                Next::Done(end) => match end {
-                    End::Closed(_) => Next::Done(Answered {
-                        kept: (),
-                        reply: Err(PutRefused::Closed(value)),
-                    }),
-                    End::Open(_, _) => Next::Done(Answered {
-                        kept: (),
-                        reply: Err(PutRefused::Full(value)),
-                    }),
-                },
-            },
-            PutAt::LoadNodes(shown, cell) => {
-                // A put that has a cell always finds a node with room.
-                let nodes = Tagged::from_word(outcome.word);
-                if nodes.index() == NULL || nodes.tag() >= on.limits.tag_limit() {
-                    let value = move_out(&on.table.shared, seat, cell);
-                    let why = PutRefused::Spent(value, Word::Nodes, nodes.tag());
-                    let held = Held {
-                        cell,
-                        node: 0,
-                        aligned: [],
-                    };
-                    return Next::On(PutAt::GiveBack(why, held, Give::LoadCells));
-                }
-                Next::On(PutAt::LoadNodeLink(shown, cell, nodes))
-            }
-            PutAt::LoadNodeLink(shown, cell, nodes) => {
-                Next::On(PutAt::TakeNode(shown, cell, nodes, outcome.word as u32))
-            }
-            PutAt::TakeNode(shown, cell, nodes, _) => {
-                if !outcome.won {
-                    return Next::Lost(PutAt::LoadNodes(shown, cell));
-                }
-                let held = Held {
-                    cell,
-                    node: nodes.index(),
-                    aligned: [],
-                };
-                Next::On(PutAt::StoreCell(shown, held))
-            }
-            PutAt::StoreCell(shown, held) => Next::On(PutAt::LoadNext(shown, held)),
-            PutAt::LoadNext(shown, held) => {
-                // Both the preparation and the link raise the tag.
-                let link = Tagged::from_word(outcome.word);
-                if link.tag() + 1 >= on.limits.tag_limit() {
-                    let value = move_out(&on.table.shared, seat, held.cell);
-                    let why = PutRefused::Spent(value, Word::Next(held.node), link.tag());
-                    return Next::On(PutAt::GiveBack(why, held, Give::LoadNodes));
-                }
-                Next::On(PutAt::PrepareNext(shown, held, link))
-            }
-            PutAt::PrepareNext(shown, held, _) => {
-                Next::On(PutAt::Seeking(shown, held, Seek::LoadTail))
-            }
-            PutAt::Seeking(shown, held, at) => match seek_on(on, at, outcome) {
-                Next::On(at) => Next::On(PutAt::Seeking(shown, held, at)),
-                Next::Lost(at) => Next::Lost(PutAt::Seeking(shown, held, at)),
-                Next::Done(end) => match end {
-                    End::Closed(_) => {
-                        let value = move_out(&on.table.shared, seat, held.cell);
-                        let why = PutRefused::Closed(value);
-                        Next::On(PutAt::GiveBack(why, held, Give::LoadNodes))
-                    }
-                    End::Open(tail, link) => Next::On(PutAt::LinkNext(shown, held, tail, link)),
-                },
-            },
-            PutAt::LinkNext(shown, held, tail, link) => {
-                if !outcome.won {
-                    return Next::Lost(PutAt::Seeking(shown, held, Seek::LoadTail));
-                }
-                // The put has had its effect.
-                Next::On(PutAt::SwingTail(shown, tail, raised(link, held.node)))
-            }
-            // Whichever pass succeeds, the tail then no longer lags behind this put.
-            PutAt::SwingTail(_, tail, _) => Next::Done(Answered {
-                kept: (),
-                reply: Ok(tail.tag()),
-            }),
-            PutAt::GiveBack(why, held, at) => match give_next(on, at, outcome) {
-                Next::On(at) => Next::On(PutAt::GiveBack(why, held, at)),
-                Next::Lost(at) => Next::Lost(PutAt::GiveBack(why, held, at)),
-                Next::Done(()) => Next::Done(Answered {
-                    kept: (),
-                    reply: Err(why),
-                }),
-            },
-        }
-    }
-}
-
-impl<T> Replies<Queue<T>, T, Line<T>, Operation<T>, Queued, (), Answer<T>, 2> for PutAt<T> {
-    ghost use Rattle.std.specs.Prelude.{refl};
-    ghost use Rattle.ms_queue.specs.KeepsAnswers.{put_given, put_promises};
-
-    ghost gives = { put_promises };
-
-    ghost idle = { λ key o answer. refl };
-
-    ghost given = { put_given };
-
-    ghost kept = { λ key o answer. tt };
 }

@@ -1,4 +1,21 @@
-//! Taking one value: by steps, and by a whole call.
+//! Taking one value: `dequeue` of Michael and Scott (PODC 1996), whose line numbers are D1 to D20.
+//!
+//! What a take does if no other pass is faster, by the functions that follow:
+//! 1. `take_fast_read`: loads `HEAD` (D2), `TAIL` (D3) and the `next` of the node that `HEAD` names
+//!    (D4). That node is the dummy, and `next` names the first node with a value.
+//! 2. `take_fast_head`: sees that `HEAD` is still the same (D5), that the dummy is not the last node
+//!    (D6) and links another (D7), loads that one's cell (D12), and exchanges the dummy for it at
+//!    `HEAD` (D13), which is the take's effect. The value moves out of the cell's slot.
+//! 3. `take_fast_node`: gives the old dummy to the list of free nodes (D19).
+//! 4. `take_fast_cell`: gives the cell to the list of free cells. (The paper's node has the value.)
+//!
+//! A mark at `HEAD` says that the queue is shut, and a mark at the last link that it is closed. If
+//! another pass was faster, the take is at some state of `TakeAt`, and continues from there
+//! (code/taking.rt): it begins again (D1), swings a tail that still names the dummy (D10), or pushes
+//! the dummy or the cell again.
+//!
+//! The steps are those of `next` in code/taking.rt, repeated and cut in parts for the reasons that
+//! putting.rt gives. Change `next` first.
 ghost use Rattle.std.specs.Prelude.{◌≡◌, ◌≤◌, ◌+◌};
 ghost use Rattle.bounded_model.specs.Laws.{Answers, TakeGives};
 ghost use Rattle.bounded_model.specs.Stepping.{MatchStepped, no_step};
@@ -7,60 +24,152 @@ ghost use Rattle.bounded_model.specs.declared.views.Answered.TheVariants.{Take a
 ghost use Rattle.running.specs.Kept.{HasNewCall, WasRun};
 ghost use Rattle.running.specs.Ops.{underway_of};
 ghost use Rattle.running.specs.Passes.{pass_in as pass_now};
-ghost use Rattle.ms_queue.specs.Calls.{is_call};
-ghost use Rattle.ms_queue.specs.Queue.{IsPassOf, machine_of, pass_in, shape_of};
-ghost use Rattle.ms_queue.specs.Taking.{IsTaking, take_account};
-ghost use Rattle.ms_queue.specs.Trying.{TakeTried};
+ghost use Rattle.ms_queue.specs.code.Machine.{is_call};
+ghost use Rattle.ms_queue.specs.Calls.{IsPassOf, machine_of, pass_in, shape_of, IsTaking, TakeTried};
+ghost use Rattle.ms_queue.specs.code.Taking.{take_account};
+ghost use Rattle.ms_queue.specs.code.Steps.{TakeStands, TakeRan};
+ghost use Rattle.queue_table.specs.declared.operation.Operation.TheVariants.{Take as TakeFirst};
 
-use crate::call_parts::giving::{Give, Held, give_access, give_next};
-use crate::fast_paths::take_fast::take_fast;
+use crate::code::giving::Give;
+use crate::code::taking::{Answer, TakeAt, TakeOp};
 use crate::life::queue::{Answered, Pass, Queue};
-use crate::rule::Queued;
-use atomic_table::Seat;
 use bounded_model::{Stepped, TakeRefused};
-use index_list::move_out;
-use machine::seats::View;
 use queue_machine::Line;
 use queue_table::Operation;
-use queue_table::layout::{HEAD, TAIL, cell, next};
-use running::{Access, Code, Next, Op, Outcome, Replies, leave, raised, told, whole};
+use running::{Next, Op, any, aside, fast_step, first_step, leave, told, whole};
 use std::sync::Wait;
-use tagged_index::{NULL, Tagged};
 
-/// A take that was begun.
-pub type TakeOp<T> = Op<T, Line<T>, Operation<T>, TakeAt<T>>;
-
-/// The next step of a take, with what it has read and holds.
-#[derive(Drop)]
-pub enum TakeAt<T> {
-    /// Load `HEAD`.
-    LoadHead,
-    /// Load `TAIL`.
-    LoadTail(Tagged),
-    /// Load `next` of the node that `HEAD` named.
-    LoadNext(Tagged, Tagged),
-    /// Load `HEAD` again.
-    CheckHead(Tagged, Tagged, Tagged),
-    /// The tail is at the dummy, which links a node: compare-and-swap `TAIL` for that node.
-    SwingTail(Tagged, Tagged),
-    /// Load the cell of the first node.
-    LoadCell(Tagged, Tagged),
-    /// Compare-and-swap `HEAD` for the first node.
-    TakeHead(Tagged, Tagged, u32),
-    /// Give the old dummy and the cell back.
-    GiveBack(Taken<T>, Give),
+/// A take's steps on its fast path, as long as no other pass is faster.
+#[inline(always)]
+pub(crate) fn take_fast<T>(
+    on: &Queue<T>,
+    by: Pass<T>,
+    take: &Operation<T>,
+) -> (
+    running::Pass<T, Line<T>>,
+    Next<TakeAt<T>, Answered<Answer<T>>>,
+)
+    requires named { take.now ≡ TakeFirst }
+    requires pass { IsPassOf on.now by }
+    ensures ran { TakeRan on.now take.now by.pass result.0 result.1 }
+    ensures took { (pass_now result.0).steps ≤ (pass_now by.pass).steps + 12 }
+{
+    let (pass, at) = fast_step!(take_fast_read(on, by, take));
+    let (pass, at) = fast_step!(take_fast_head(on, pass, at, take));
+    let (pass, at) = fast_step!(take_fast_node(on, pass, at, take));
+    take_fast_cell(on, pass, at, take)
 }
 
-/// A value that was taken, with its number, and what is to be given back.
-#[derive(Drop)]
-pub struct Taken<T> {
-    pub(crate) value: T,
-    pub(crate) number: u64,
-    pub(crate) held: Held,
+// First the steps that read the head, the tail and the link of the dummy (D2 to D4).
+#[inline]
+fn take_fast_read<T>(
+    on: &Queue<T>,
+    by: Pass<T>,
+    take: &Operation<T>,
+) -> (
+    running::Pass<T, Line<T>>,
+    Next<TakeAt<T>, Answered<Answer<T>>>,
+)
+    requires named { take.now ≡ TakeFirst }
+    requires pass { IsPassOf on.now by }
+    ensures ran { TakeRan on.now take.now by.pass result.0 result.1 }
+    ensures took { (pass_now result.0).steps ≤ (pass_now by.pass).steps + 3 }
+{
+    let Pass { pass, .. } = by;
+    let table = &on.table.shared;
+    let (pass, head) = fast_step!(
+        first_step(table, on, pass, TakeAt::LoadHead, take),
+        TakeAt::LoadTail(head) => head
+    );
+    let (pass, head, tail) = fast_step!(
+        any(table, on, pass, TakeAt::LoadTail(head), take),
+        TakeAt::LoadNext(head, tail) => head, tail
+    );
+    any(table, on, pass, TakeAt::LoadNext(head, tail), take)
 }
 
-/// What a take answers.
-pub(crate) type Answer<T> = Result<(T, u64), TakeRefused>;
+// Then the steps that take the first value (D5 to D13).
+#[inline]
+fn take_fast_head<T>(
+    on: &Queue<T>,
+    by: running::Pass<T, Line<T>>,
+    read: TakeAt<T>,
+    take: &Operation<T>,
+) -> (
+    running::Pass<T, Line<T>>,
+    Next<TakeAt<T>, Answered<Answer<T>>>,
+)
+    requires named { take.now ≡ TakeFirst }
+    requires stands { TakeStands on.now by read }
+    ensures ran { TakeRan on.now take.now by result.0 result.1 }
+    ensures took { (pass_now result.0).steps ≤ (pass_now by).steps + 3 }
+{
+    let TakeAt::CheckHead(head, tail, link) = read else {
+        return (by, Next::On(read));
+    };
+    let table = &on.table.shared;
+    let (pass, head, link) = fast_step!(
+        any(table, on, by, TakeAt::CheckHead(head, tail, link), take),
+        TakeAt::LoadCell(head, link) => head, link
+    );
+    let (pass, head, link, cell) = fast_step!(
+        any(table, on, pass, TakeAt::LoadCell(head, link), take),
+        TakeAt::TakeHead(head, link, cell) => head, link, cell
+    );
+    any(table, on, pass, TakeAt::TakeHead(head, link, cell), take)
+}
+
+// The steps that give the old dummy back (D19).
+#[inline]
+fn take_fast_node<T>(
+    on: &Queue<T>,
+    by: running::Pass<T, Line<T>>,
+    won: TakeAt<T>,
+    take: &Operation<T>,
+) -> (
+    running::Pass<T, Line<T>>,
+    Next<TakeAt<T>, Answered<Answer<T>>>,
+)
+    requires named { take.now ≡ TakeFirst }
+    requires stands { TakeStands on.now by won }
+    ensures ran { TakeRan on.now take.now by result.0 result.1 }
+    ensures took { (pass_now result.0).steps ≤ (pass_now by).steps + 3 }
+{
+    let TakeAt::GiveBack(taken, Give::LoadNodes) = won else {
+        return (by, Next::On(won));
+    };
+    let table = &on.table.shared;
+    let begun = TakeAt::GiveBack(taken, Give::LoadNodes);
+    let (pass, at) = fast_step!(any(table, on, by, begun, take));
+    let (pass, at) = fast_step!(any(table, on, pass, at, take));
+    any(table, on, pass, at, take)
+}
+
+// The steps that give the cell back.
+#[inline]
+fn take_fast_cell<T>(
+    on: &Queue<T>,
+    by: running::Pass<T, Line<T>>,
+    given: TakeAt<T>,
+    take: &Operation<T>,
+) -> (
+    running::Pass<T, Line<T>>,
+    Next<TakeAt<T>, Answered<Answer<T>>>,
+)
+    requires named { take.now ≡ TakeFirst }
+    requires stands { TakeStands on.now by given }
+    ensures ran { TakeRan on.now take.now by result.0 result.1 }
+    ensures took { (pass_now result.0).steps ≤ (pass_now by).steps + 3 }
+{
+    let TakeAt::GiveBack(taken, Give::LoadCells) = given else {
+        return (by, Next::On(given));
+    };
+    let table = &on.table.shared;
+    let begun = TakeAt::GiveBack(taken, Give::LoadCells);
+    let (pass, at) = fast_step!(any(table, on, by, begun, take));
+    let (pass, at) = fast_step!(any(table, on, pass, at, take));
+    any(table, on, pass, at, take)
+}
 
 impl<T> Queue<T> {
     /// Begins a take, and makes no step yet. If the operation is dropped, its pass goes with it, and
@@ -121,131 +230,4 @@ impl<T> Queue<T> {
             under_way => leave(self, under_way, take),
         }
     }
-}
-
-impl<T> Code<Queue<T>, T, Line<T>, Operation<T>, Queued, Answered<Answer<T>>, 2> for TakeAt<T> {
-    ghost use Rattle.ms_queue.specs.Taking.{take_account};
-
-    ghost account = { take_account };
-
-    #[inline]
-    fn is_refusal(answer: &Answered<Answer<T>>) -> bool {
-        answer.reply.is_err()
-    }
-
-    #[inline(always)]
-    fn access(&self, on: &Queue<T>) -> Access {
-        match self {
-            TakeAt::LoadHead => Access::Load(HEAD),
-            TakeAt::LoadTail(_) => Access::Load(TAIL),
-            TakeAt::LoadNext(head, _) => Access::Load(next(head.index())),
-            TakeAt::CheckHead(_, _, _) => Access::Load(HEAD),
-            TakeAt::SwingTail(tail, link) => Access::Swap(TAIL, *tail, raised(*tail, link.index())),
-            TakeAt::LoadCell(_, link) => Access::Load(cell(link.index())),
-            TakeAt::TakeHead(head, link, _) => {
-                Access::Bring(HEAD, *head, raised(*head, link.index()))
-            }
-            TakeAt::GiveBack(taken, at) => give_access(on, taken.held, at),
-        }
-    }
-
-    #[inline(always)]
-    fn next(
-        self,
-        on: &Queue<T>,
-        seat: &mut Seat<Option<T>, View<T, Line<T>>>,
-        outcome: Outcome,
-    ) -> Next<TakeAt<T>, Answered<Answer<T>>> {
-        match self {
-            TakeAt::LoadHead => {
-                let head = Tagged::from_word(outcome.word);
-                if head.has_second() {
-                    return Next::Done(Answered {
-                        kept: (),
-                        reply: Err(TakeRefused::Shut),
-                    });
-                }
-                Next::On(TakeAt::LoadTail(head))
-            }
-            TakeAt::LoadTail(head) => {
-                let tail = Tagged::from_word(outcome.word);
-                Next::On(TakeAt::LoadNext(head, tail))
-            }
-            TakeAt::LoadNext(head, tail) => {
-                let link = Tagged::from_word(outcome.word);
-                Next::On(TakeAt::CheckHead(head, tail, link))
-            }
-            TakeAt::CheckHead(head, tail, link) => {
-                // If the head is still the same, the link was that of the dummy.
-                if outcome.word != head.word() {
-                    return Next::Lost(TakeAt::LoadHead);
-                }
-                if link.is_marked() {
-                    return Next::Done(Answered {
-                        kept: (),
-                        reply: Err(TakeRefused::Closed),
-                    });
-                }
-                if link.index() == NULL {
-                    return Next::Done(Answered {
-                        kept: (),
-                        reply: Err(TakeRefused::Empty),
-                    });
-                }
-                if tail.index() == head.index() {
-                    return Next::On(TakeAt::SwingTail(tail, link));
-                }
-                Next::On(TakeAt::LoadCell(head, link))
-            }
-            // Whichever pass succeeds, the tail is then no longer at the dummy.
-            TakeAt::SwingTail(_, _) => {
-                if outcome.won {
-                    Next::On(TakeAt::LoadHead)
-                } else {
-                    Next::Lost(TakeAt::LoadHead)
-                }
-            }
-            TakeAt::LoadCell(head, link) => {
-                Next::On(TakeAt::TakeHead(head, link, outcome.word as u32))
-            }
-            TakeAt::TakeHead(head, _, cell) => {
-                if !outcome.won {
-                    return Next::Lost(TakeAt::LoadHead);
-                }
-                // The take has its effect here; the value moves out with the cell's slot.
-                let value = move_out(&on.table.shared, seat, cell);
-                let taken = Taken {
-                    value,
-                    number: head.tag(),
-                    held: Held {
-                        cell,
-                        node: head.index(),
-                        aligned: [],
-                    },
-                };
-                Next::On(TakeAt::GiveBack(taken, Give::LoadNodes))
-            }
-            TakeAt::GiveBack(taken, at) => match give_next(on, at, outcome) {
-                Next::On(at) => Next::On(TakeAt::GiveBack(taken, at)),
-                Next::Lost(at) => Next::Lost(TakeAt::GiveBack(taken, at)),
-                Next::Done(()) => Next::Done(Answered {
-                    kept: (),
-                    reply: Ok((taken.value, taken.number)),
-                }),
-            },
-        }
-    }
-}
-
-impl<T> Replies<Queue<T>, T, Line<T>, Operation<T>, Queued, (), Answer<T>, 2> for TakeAt<T> {
-    ghost use Rattle.std.specs.Prelude.{refl};
-    ghost use Rattle.ms_queue.specs.KeepsAnswers.{take_given, take_promises};
-
-    ghost gives = { take_promises };
-
-    ghost idle = { λ key o answer. refl };
-
-    ghost given = { take_given };
-
-    ghost kept = { λ key o answer. tt };
 }

@@ -2,8 +2,8 @@
 ghost use Rattle.bounded_model.specs.Laws.{Leaves};
 ghost use Rattle.running.specs.Ends.{IsRun, IsRunAfter};
 ghost use Rattle.running.specs.Kept.{acts_of_root};
-ghost use Rattle.ms_queue.specs.Left.{left_in};
-ghost use Rattle.ms_queue.specs.Queue.{IsRootOf, machine_of, root_in, shape_of};
+ghost use Rattle.ms_queue.specs.code.Left.{left_in};
+ghost use Rattle.ms_queue.specs.Calls.{IsRootOf, machine_of, root_in, shape_of};
 
 use crate::life::queue::{Queue, Root};
 use crate::life::rest::Rest;

@@ -5,7 +5,7 @@ ghost use Rattle.tagged_index.specs.declared.word.TheConstants.{NULL};
 ghost use Rattle.bounded_model.specs.Laws.{fresh};
 ghost use Rattle.queue_machine.specs.Answers.{shape};
 ghost use Rattle.queue_table.specs.Layout.{words_for, start_at};
-ghost use Rattle.ms_queue.specs.Queue.{IsRootOf, root_in, shape_of};
+ghost use Rattle.ms_queue.specs.Calls.{IsRootOf, root_in, shape_of};
 
 use crate::life::queue::{Queue, Root};
 use atomic_table::Table;

@@ -60,7 +60,7 @@ impl<T> HasTable<T, Line<T>, Operation<T>, Queued> for Queue<T> {
 }
 
 impl<T> Keeping<Line<T>, ()> for Queue<T> {
-    ghost use Rattle.ms_queue.specs.Queue.{keeps};
+    ghost use Rattle.ms_queue.specs.Calls.{keeps};
 
     ghost keeps = { keeps };
 }

@@ -32,7 +32,7 @@ fn index_at<T>(closed: &Closed<Option<T>, Global>, at: usize) -> u32
 
 impl<T> Rest<T> {
     ghost use Rattle.queue_table.specs.Layout.{head_at};
-    ghost use Rattle.ms_queue.specs.Left.{left_in, left_along, node_behind};
+    ghost use Rattle.ms_queue.specs.code.Left.{left_in, left_along, node_behind};
 
     // The values in the chain after the dummy, which `HEAD` names.
     pub(crate) fn of(closed: Closed<Option<T>, Global>) -> Rest<T>
@@ -52,7 +52,7 @@ impl<T> Rest<T> {
 }
 
 impl<T> Leaving<T> for Rest<T> {
-    ghost use Rattle.ms_queue.specs.Left.{left_in};
+    ghost use Rattle.ms_queue.specs.code.Left.{left_in};
 
     ghost left = { left_in };
 

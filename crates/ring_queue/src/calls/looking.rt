@@ -1,4 +1,4 @@
-//! Looking whether a ring is empty: by steps, and by a whole call.
+//! Looking whether a ring is empty.
 ghost use Rattle.std.specs.Prelude.{◌≡◌, ◌≤◌, ◌+◌};
 ghost use Rattle.bounded_model.specs.Laws.{Answers, LookGives};
 ghost use Rattle.bounded_model.specs.Stepping.{MatchStepped, no_step};
@@ -7,31 +7,77 @@ ghost use Rattle.bounded_model.specs.declared.views.Answered.TheVariants.{Look a
 ghost use Rattle.running.specs.Kept.{HasNewCall, WasRun};
 ghost use Rattle.running.specs.Ops.{underway_of};
 ghost use Rattle.running.specs.Passes.{pass_in as pass_now};
-ghost use Rattle.ring_queue.specs.Calls.{is_call};
-ghost use Rattle.ring_queue.specs.Looking.{IsLooking, look_account};
-ghost use Rattle.ring_queue.specs.Ring.{IsPassOf, machine_of, pass_in, shape_of};
-ghost use Rattle.ring_queue.specs.Trying.{LookTried};
+ghost use Rattle.ring_queue.specs.code.Machine.{is_call};
+ghost use Rattle.ring_queue.specs.Calls.{IsLooking, IsPassOf, machine_of, pass_in, shape_of, LookTried};
+ghost use Rattle.ring_queue.specs.code.Looking.{look_account, slot_loaded};
+ghost use Rattle.ring_queue.specs.code.Steps.{LookStands, LookRan};
+ghost use Rattle.ring_table.specs.declared.operation.Operation.TheVariants.{Look as LookFirst};
 
-use crate::call_parts::walking::{WalkAt, walk_access, walk_on};
-use crate::fast_paths::look_fast::look_fast;
+use crate::code::walk::Walk;
+use crate::code::looking::{LookAt, LookOp};
+use crate::code::walking::{FAST_ROUNDS, WalkAt};
 use crate::life::ring::{Answered, Pass, RingQueue};
-use crate::life::spare::Spare;
-use crate::rule::Ringed;
-use atomic_table::Seat;
 use bounded_model::Stepped;
-use machine::seats::View;
-use ring_table::layout::HEAD;
 use ring_table::{Operation, SeatLine};
-use running::{Access, Code, Next, Op, Outcome, Replies, leave, whole};
+use running::{Next, Op, any, aside, fast_step, first_step, leave, whole};
 use std::sync::Wait;
 
-/// A look that was begun.
-pub type LookOp<T> = Op<T, SeatLine<T>, Operation<T>, LookAt>;
+/// A look's steps on its fast path, as long as the hint is near enough.
+#[inline(always)]
+pub(crate) fn look_fast<T>(
+    on: &RingQueue<T>,
+    by: Pass<T>,
+    look: &Operation<T>,
+) -> (running::Pass<T, SeatLine<T>>, Next<LookAt, Answered<bool>>)
+    requires named { look.now ≡ LookFirst }
+    requires pass { IsPassOf on.now by }
+    ensures ran { LookRan on.now look.now by.pass result.0 result.1 }
+    ensures took { (pass_now result.0).steps ≤ (pass_now by.pass).steps + 9 }
+{
+    let Pass { pass, kept: spare } = by;
+    let begun = LookAt {
+        at: WalkAt::LoadHint(spare),
+    };
+    let (pass, begun) = fast_step!(first_step(&on.table.shared, on, pass, begun, look));
+    let WalkAt::LoadSlot(walk) = begun.at else {
+        aside();
+        return (pass, Next::On(begun));
+    };
+    look_fast_walk(on, pass, walk, look)
+}
 
-/// The next step of a look: one of the way to the front.
-#[derive(Clone, Copy)]
-pub struct LookAt {
-    pub(crate) at: WalkAt,
+// The walk.
+#[inline(always)]
+fn look_fast_walk<T>(
+    on: &RingQueue<T>,
+    by: running::Pass<T, SeatLine<T>>,
+    begun: Walk,
+    look: &Operation<T>,
+) -> (running::Pass<T, SeatLine<T>>, Next<LookAt, Answered<bool>>)
+    requires named { look.now ≡ LookFirst }
+    requires stands { LookStands on.now by (slot_loaded begun) }
+    ensures ran { LookRan on.now look.now by result.0 result.1 }
+    ensures took { (pass_now result.0).steps ≤ (pass_now by).steps + 8 }
+{
+    let mut pass = by;
+    let mut walk = begun;
+    for _gone in 0..FAST_ROUNDS {
+        let read = LookAt {
+            at: WalkAt::LoadSlot(walk),
+        };
+        match any(&on.table.shared, on, pass, read, look) {
+            (next, Next::On(to)) => match to.at {
+                WalkAt::LoadSlot(further) => {
+                    pass = next;
+                    walk = further;
+                }
+                at => return (next, Next::On(LookAt { at })),
+            },
+            other => return other,
+        }
+    }
+    let at = WalkAt::LoadSlot(walk);
+    (pass, Next::On(LookAt { at }))
 }
 
 impl<T> RingQueue<T> {
@@ -80,45 +126,4 @@ impl<T> RingQueue<T> {
         let first = look_fast(self, by, &look);
         leave(self, first, look)
     }
-}
-
-impl<T> Code<RingQueue<T>, T, SeatLine<T>, Operation<T>, Ringed, Answered<bool>, 0> for LookAt {
-    ghost use Rattle.ring_queue.specs.Looking.{look_account};
-
-    ghost account = { look_account };
-
-    #[inline(always)]
-    fn access(&self, on: &RingQueue<T>) -> Access {
-        walk_access(on, HEAD, &self.at)
-    }
-
-    #[inline(always)]
-    fn next(
-        self,
-        on: &RingQueue<T>,
-        _seat: &mut Seat<Option<T>, View<T, SeatLine<T>>>,
-        outcome: Outcome,
-    ) -> Next<LookAt, Answered<bool>> {
-        match walk_on(on, 1, self.at, outcome) {
-            Next::On(at) => Next::On(LookAt { at }),
-            Next::Lost(at) => Next::Lost(LookAt { at }),
-            Next::Done(end) => Next::Done(Answered {
-                kept: end.walk.spare,
-                reply: end.slot.tag() == 2 * end.walk.at.tag(),
-            }),
-        }
-    }
-}
-
-impl<T> Replies<RingQueue<T>, T, SeatLine<T>, Operation<T>, Ringed, Spare, bool, 0> for LookAt {
-    ghost use Rattle.std.specs.Prelude.{refl};
-    ghost use Rattle.ring_queue.specs.KeepsAnswers.{look_given, look_promises};
-
-    ghost gives = { look_promises };
-
-    ghost idle = { λ key o answer. refl };
-
-    ghost given = { look_given };
-
-    ghost kept = { λ key o answer. refl };
 }

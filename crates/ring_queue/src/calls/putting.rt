@@ -1,6 +1,26 @@
-//! Putting one value: by steps, and by a whole call. From the first step on the value is in the slot
-//! of the spare cell, and a snapshot shows it to proofs.
-ghost use Rattle.std.specs.Prelude.{◌≡◌, ◌≤◌, ◌+◌, ◌*◌};
+//! Putting one value.
+//!
+//! What a put does if no other pass is faster, by the functions that follow:
+//! 1. `put_fast`: the value moves into the slot of the pass's spare cell, and `TAIL` is loaded, which
+//!    is only a hint: the back is at the position that it names, or further on.
+//! 2. `put_fast_walk`: loads one slot after the other, from the hint on, until a slot is not filled in
+//!    the lap of its position. That is the back of the ring.
+//! 3. `put_fast_end`: exchanges the cell of this slot, which is empty, for the spare cell with the
+//!    value: the put's effect. The cell that lay there is the pass's spare one from now on. If the slot
+//!    has a mark, still holds the value of the lap before, or was filled in its last lap, the put is
+//!    refused instead: the value moves out of the spare cell and is handed back.
+//! 4. `put_fast_pass`: one put in four moves `TAIL` to the position behind its own.
+//!
+//! If another put was faster, this one continues its walk by one slot (code/putting.rt): a wait would
+//! only make the walk longer. A hint that lags costs the others steps and nothing else, because
+//! whoever has walked four positions moves it.
+//!
+//! The steps are those of `next` in code/putting.rt: change these first. They are repeated here
+//! because the loop over steps (`to_the_end`, `run_for`) holds a put's state in memory, and finds out
+//! anew before each step what to do. Between two steps here there are only plain words, which the
+//! compiler keeps in registers. The measure is the number of instructions of a put and a take in turn
+//! on one thread, and of a put to a full ring.
+ghost use Rattle.std.specs.Prelude.{◌≡◌, ◌≤◌, ◌+◌};
 ghost use Rattle.bounded_model.specs.Laws.{Answers, PutGives, put_answered};
 ghost use Rattle.bounded_model.specs.Stepping.{MatchStepped, no_step};
 ghost use Rattle.bounded_model.specs.declared.commands.Command.TheVariants.{Put as PutCall};
@@ -9,50 +29,147 @@ ghost use Rattle.running.specs.Ops.{underway_of};
 ghost use Rattle.running.specs.Passes.{pass_in as pass_now};
 ghost use Rattle.ring_machine.specs.declared.lines.Call.TheVariants.{Put as CallPut};
 ghost use Rattle.ring_table.specs.Lines.{call_of};
-ghost use Rattle.ring_queue.specs.Calls.{is_call, put_of};
-ghost use Rattle.ring_queue.specs.Putting.{IsPutting, has_room, put_account, refused_at};
-ghost use Rattle.ring_queue.specs.Refusals.{FullTells, FullTried, SpentTells, SpentTried};
-ghost use Rattle.ring_queue.specs.Ring.{IsPassOf, laps_of, machine_of, pass_in, shape_of};
-ghost use Rattle.ring_queue.specs.Trying.{PutTried};
+ghost use Rattle.ring_queue.specs.code.Machine.{is_call, put_of};
+ghost use Rattle.ring_queue.specs.Calls.{IsPutting, FullTells, FullTried, SpentTells, SpentTried, IsPassOf, machine_of, pass_in, shape_of, PutTried};
+ghost use Rattle.ring_queue.specs.code.Putting.{put_account};
+ghost use Rattle.ring_queue.specs.code.Steps.{PutStands, PutRan};
+ghost use Rattle.ring_queue.specs.declared.code.putting.PutAt.TheVariants.{Walking};
+ghost use Rattle.ring_queue.specs.declared.code.walking.WalkAt.TheVariants.{LoadSlot};
 
-use crate::call_parts::walking::{
-    Found, STRIDE, Walk, WalkAt, behind, place_of, walk_access, walk_on,
-};
-use crate::fast_paths::put_fast::put_fast;
+use crate::code::walk::Walk;
+use crate::code::putting::{Answer, PutAt, PutOp};
+use crate::code::walking::{FAST_ROUNDS, WalkAt};
 use crate::life::ring::{Answered, Pass, RingQueue};
-use crate::life::spare::Spare;
-use crate::rule::Ringed;
-use atomic_table::Seat;
-use bounded_model::{PutRefused, Stepped, Word};
-use index_list::{move_out, put_in};
-use machine::seats::View;
-use ring_table::layout::TAIL;
+use bounded_model::{PutRefused, Stepped};
 use ring_table::{Operation, SeatLine};
-use running::{Access, Code, Next, Op, Outcome, Replies, leave, raised, told, whole};
+use running::{Next, Op, any, aside, fast_step, first_step, leave, told, whole};
 use std::snapshot::Snapshot;
 use std::sync::Wait;
-use tagged_index::Tagged;
 
-/// A put that was begun.
-pub type PutOp<T> = Op<T, SeatLine<T>, Operation<T>, PutAt<T>>;
-
-/// The next step of a put, with what it has read and holds.
-#[derive(Drop)]
-pub enum PutAt<T> {
-    /// Load `TAIL`, and take the spare cell in hand.
-    FetchTail(Spare, T),
-    /// On the way to the back.
-    Walking(Snapshot<T>, WalkAt),
-    /// Exchange the spare cell, with the value in it, for the cell of the empty slot.
-    Exchange(Snapshot<T>, Found),
-    /// The value is put at the position of the walk. Compare-and-swap `TAIL` for the next position.
-    PassTail(Snapshot<T>, Walk),
-    /// Load the slot that the walk has come to once more, and lay the spare cell back home.
-    Stow(Walk, PutRefused<T>),
+/// A put's steps on its fast path, until another pass is faster.
+#[inline(always)]
+pub(crate) fn put_fast<T>(
+    on: &RingQueue<T>,
+    by: Pass<T>,
+    value: T,
+    put: &Operation<T>,
+) -> (
+    running::Pass<T, SeatLine<T>>,
+    Next<PutAt<T>, Answered<Answer<T>>>,
+)
+    requires named { put.now ≡ put_of value }
+    requires pass { IsPassOf on.now by }
+    ensures ran { PutRan on.now put.now by.pass result.0 result.1 }
+    ensures took { (pass_now result.0).steps ≤ (pass_now by.pass).steps + 11 }
+{
+    let Pass { pass, kept: spare } = by;
+    let table = &on.table.shared;
+    let (pass, shown, walking) = fast_step!(
+        first_step(table, on, pass, PutAt::FetchTail(spare, value), put),
+        PutAt::Walking(shown, walking) => shown, walking
+    );
+    let WalkAt::LoadSlot(walk) = walking else {
+        aside();
+        return (pass, Next::On(PutAt::Walking(shown, walking)));
+    };
+    let (pass, at) = fast_step!(put_fast_walk(on, pass, shown, walk, put));
+    let (pass, at) = match put_fast_end(on, pass, at, put) {
+        (pass, Next::On(at)) => (pass, at),
+        other => return other,
+    };
+    put_fast_pass(on, pass, at, put)
 }
 
-/// What a put answers.
-pub(crate) type Answer<T> = Result<u64, PutRefused<T>>;
+// At the back: the exchange, which puts the value, or the way home of the spare cell, if the
+// value is refused.
+#[inline]
+fn put_fast_end<T>(
+    on: &RingQueue<T>,
+    by: running::Pass<T, SeatLine<T>>,
+    there: PutAt<T>,
+    put: &Operation<T>,
+) -> (
+    running::Pass<T, SeatLine<T>>,
+    Next<PutAt<T>, Answered<Answer<T>>>,
+)
+    requires stands { PutStands on.now put.now by there }
+    ensures ran { PutRan on.now put.now by result.0 result.1 }
+    ensures took { (pass_now result.0).steps ≤ (pass_now by).steps + 1 }
+{
+    let table = &on.table.shared;
+    match there {
+        PutAt::Exchange(shown, end) => any(table, on, by, PutAt::Exchange(shown, end), put),
+        PutAt::Stow(walk, why) => any(table, on, by, PutAt::Stow(walk, why), put),
+        at => {
+            aside();
+            (by, Next::On(at))
+        }
+    }
+}
+
+// One put in four moves the tail as well.
+#[inline]
+fn put_fast_pass<T>(
+    on: &RingQueue<T>,
+    by: running::Pass<T, SeatLine<T>>,
+    put_there: PutAt<T>,
+    put: &Operation<T>,
+) -> (
+    running::Pass<T, SeatLine<T>>,
+    Next<PutAt<T>, Answered<Answer<T>>>,
+)
+    requires stands { PutStands on.now put.now by put_there }
+    ensures ran { PutRan on.now put.now by result.0 result.1 }
+    ensures took { (pass_now result.0).steps ≤ (pass_now by).steps + 1 }
+{
+    let PutAt::PassTail(shown, walk) = put_there else {
+        aside();
+        return (by, Next::On(put_there));
+    };
+    any(&on.table.shared, on, by, PutAt::PassTail(shown, walk), put)
+}
+
+// The walk, as long as the hint is near enough.
+#[inline]
+fn put_fast_walk<T>(
+    on: &RingQueue<T>,
+    by: running::Pass<T, SeatLine<T>>,
+    value: Snapshot<T>,
+    begun: Walk,
+    put: &Operation<T>,
+) -> (
+    running::Pass<T, SeatLine<T>>,
+    Next<PutAt<T>, Answered<Answer<T>>>,
+)
+    requires stands { PutStands on.now put.now by (Walking value (LoadSlot begun)) }
+    ensures ran { PutRan on.now put.now by result.0 result.1 }
+    ensures took { (pass_now result.0).steps ≤ (pass_now by).steps + 8 }
+{
+    let mut pass = by;
+    let mut shown = value;
+    let mut walk = begun;
+    for _gone in 0..FAST_ROUNDS {
+        let read = PutAt::Walking(shown, WalkAt::LoadSlot(walk));
+        match any(&on.table.shared, on, pass, read, put) {
+            (next, Next::On(at)) => match at {
+                PutAt::Walking(still, walking) => match walking {
+                    WalkAt::LoadSlot(further) => {
+                        pass = next;
+                        shown = still;
+                        walk = further;
+                    }
+                    walking => return (next, Next::On(PutAt::Walking(still, walking))),
+                },
+                at => return (next, Next::On(at)),
+            },
+            other => return other,
+        }
+    }
+    (
+        pass,
+        Next::On(PutAt::Walking(shown, WalkAt::LoadSlot(walk))),
+    )
+}
 
 /// The put of this value.
 #[inline(always)]
@@ -60,31 +177,6 @@ pub(crate) fn put_operation<T>(value: &T) -> Operation<T>
     ensures { (result ≡ put_of value.now) × (call_of result ≡ CallPut value.now) }
 {
     Operation::Put(Snapshot::of(value))
-}
-
-// Why a value is not put at the back, if there is no room for it.
-#[inline]
-fn refused<T>(walk: &Walk, slot: Tagged, value: T) -> PutRefused<T>
-    ensures { result ≡ refused_at walk.now.at slot value }
-{
-    if slot.is_marked() {
-        return PutRefused::Closed(value);
-    }
-    if slot.tag() == 2 * walk.at.tag() {
-        return PutRefused::Spent(value, Word::Next(walk.at.index()), slot.tag());
-    }
-    PutRefused::Full(value)
-}
-
-// Whether a value may be put at the back: the ring is open, and the slot is empty and not worn. The
-// tag of an empty slot is even, so an odd tag limit allows no more than the even one below it.
-#[inline(always)]
-fn has_room<T>(on: &RingQueue<T>, end: &Found) -> bool
-    ensures { result ≡ has_room (laps_of on.now) end.now.walk.at end.now.slot }
-{
-    !end.slot.is_marked()
-        && end.slot.tag() == end.walk.empty
-        && end.slot.tag() + 1 < on.limits.tag_limit()
 }
 
 impl<T> RingQueue<T> {
@@ -159,107 +251,4 @@ impl<T> RingQueue<T> {
             under_way => leave(self, under_way, put),
         }
     }
-}
-
-impl<T> Code<RingQueue<T>, T, SeatLine<T>, Operation<T>, Ringed, Answered<Answer<T>>, 0>
-    for PutAt<T> {
-    ghost use Rattle.ring_queue.specs.Putting.{put_account};
-
-    ghost account = { put_account };
-
-    #[inline]
-    fn is_refusal(answer: &Answered<Answer<T>>) -> bool {
-        answer.reply.is_err()
-    }
-
-    #[inline(always)]
-    fn access(&self, on: &RingQueue<T>) -> Access {
-        match self {
-            PutAt::FetchTail(_, _) => Access::Fetch(TAIL),
-            PutAt::Walking(_, at) => walk_access(on, TAIL, at),
-            PutAt::Exchange(_, end) => {
-                let new = raised(end.slot, end.walk.spare.index);
-                Access::Return(end.walk.place, end.slot, new)
-            }
-            PutAt::PassTail(_, walk) => Access::Swap(TAIL, walk.from, behind(on, walk.at)),
-            PutAt::Stow(walk, _) => Access::Stow(walk.place),
-        }
-    }
-
-    #[inline(always)]
-    fn next(
-        self,
-        on: &RingQueue<T>,
-        seat: &mut Seat<Option<T>, View<T, SeatLine<T>>>,
-        outcome: Outcome,
-    ) -> Next<PutAt<T>, Answered<Answer<T>>> {
-        match self {
-            PutAt::FetchTail(spare, value) => {
-                // With the cell comes its slot, and the value moves in.
-                let shown = Snapshot::of(&value);
-                put_in(&on.table.shared, seat, spare.index, value);
-                let hint = Tagged::from_word(outcome.word);
-                let walk = Walk::from(on, spare, hint);
-                Next::On(PutAt::Walking(shown, WalkAt::LoadSlot(walk)))
-            }
-            PutAt::Walking(shown, at) => match walk_on(on, 0, at, outcome) {
-                Next::On(at) => Next::On(PutAt::Walking(shown, at)),
-                Next::Lost(at) => Next::Lost(PutAt::Walking(shown, at)),
-                Next::Done(end) => {
-                    if has_room(on, &end) {
-                        return Next::On(PutAt::Exchange(shown, end));
-                    }
-                    let Found { walk, slot } = end;
-                    let value = move_out(&on.table.shared, seat, walk.spare.index);
-                    let why = refused(&walk, slot, value);
-                    Next::On(PutAt::Stow(walk, why))
-                }
-            },
-            PutAt::Exchange(shown, end) => {
-                if !outcome.won {
-                    // Another put was faster, so the walk continues by one slot: a wait would only
-                    // make it longer.
-                    let again = WalkAt::LoadSlot(end.walk);
-                    return Next::On(PutAt::Walking(shown, again));
-                }
-                // The put has its effect here; the cell that lay in the slot is the spare one now.
-                let walk = end.walk.with(Spare {
-                    index: end.slot.index(),
-                });
-                if walk.gone + 1 == STRIDE {
-                    return Next::On(PutAt::PassTail(shown, walk));
-                }
-                Next::Done(Answered {
-                    kept: walk.spare,
-                    reply: Ok(place_of(on, walk.at)),
-                })
-            }
-            // Whichever pass succeeds, the tail is then no longer behind this put.
-            PutAt::PassTail(shown, walk) => {
-                let _ = shown;
-                Next::Done(Answered {
-                    kept: walk.spare,
-                    reply: Ok(place_of(on, walk.at)),
-                })
-            }
-            PutAt::Stow(walk, why) => Next::Done(Answered {
-                kept: walk.spare,
-                reply: Err(why),
-            }),
-        }
-    }
-}
-
-impl<T> Replies<RingQueue<T>, T, SeatLine<T>, Operation<T>, Ringed, Spare, Answer<T>, 0>
-    for PutAt<T> {
-    ghost use Rattle.std.specs.Prelude.{refl};
-    ghost use Rattle.ring_queue.specs.KeepsAnswers.{put_given, put_promises};
-
-    ghost gives = { put_promises };
-
-    ghost idle = { λ key o answer. refl };
-
-    ghost given = { put_given };
-
-    ghost kept = { λ key o answer. refl };
 }

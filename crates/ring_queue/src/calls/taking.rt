@@ -1,4 +1,21 @@
-//! Taking one value: by steps, and by a whole call.
+//! Taking one value.
+//!
+//! What a take does if no other pass is faster, by the functions that follow:
+//! 1. `take_fast`: loads `HEAD`, which is only a hint: the front is at the position that it names, or
+//!    further on.
+//! 2. `take_fast_walk`: loads one slot after the other, from the hint on, until a slot is not yet
+//!    emptied in the lap of its position. That is the front of the ring.
+//! 3. `take_fast_exchange`: exchanges the cell of this slot for the pass's spare cell, which is empty:
+//!    the take's effect. The value moves out of the cell that lay there, which is the spare one from
+//!    now on.
+//! 4. `take_fast_pass`: one take in four moves `HEAD` to the position behind its own.
+//!
+//! If the slot at the front is empty, the take is refused: the ring is empty, or closed if the slot
+//! has the mark. A mark at `HEAD` says that it is shut. If another take was faster, this one
+//! continues its walk by one slot (code/taking.rt).
+//!
+//! The steps are those of `next` in code/taking.rt, repeated for the reasons that putting.rt gives.
+//! Change `next` first.
 ghost use Rattle.bounded_model.specs.Laws.{Answers, TakeGives};
 ghost use Rattle.bounded_model.specs.Stepping.{MatchStepped, no_step};
 ghost use Rattle.bounded_model.specs.declared.commands.Command.TheVariants.{Take as TakeCall};
@@ -6,64 +23,140 @@ ghost use Rattle.bounded_model.specs.declared.views.Answered.TheVariants.{Take a
 ghost use Rattle.running.specs.Kept.{HasNewCall, WasRun};
 ghost use Rattle.running.specs.Ops.{underway_of};
 ghost use Rattle.running.specs.Passes.{pass_in as pass_now};
-ghost use Rattle.ring_queue.specs.Calls.{is_call};
-ghost use Rattle.ring_queue.specs.Ring.{IsPassOf, machine_of, pass_in, shape_of};
-ghost use Rattle.ring_queue.specs.Taking.{IsTaking, take_account};
-ghost use Rattle.ring_queue.specs.Trying.{TakeTried};
+ghost use Rattle.ring_queue.specs.code.Machine.{is_call};
+ghost use Rattle.ring_queue.specs.Calls.{IsPassOf, machine_of, pass_in, shape_of, IsTaking, TakeTried};
+ghost use Rattle.ring_queue.specs.code.Taking.{take_account};
+ghost use Rattle.ring_queue.specs.code.Steps.{TakeStands, TakeRan};
 ghost use Rattle.std.specs.Prelude.{◌≡◌, ◌≤◌, ◌+◌};
-ghost use Rattle.ring_queue.specs.Taking.{refusal_at};
+ghost use Rattle.ring_table.specs.declared.operation.Operation.TheVariants.{Take as TakeFirst};
+ghost use Rattle.ring_queue.specs.declared.code.taking.TakeAt.TheVariants.{Walking};
+ghost use Rattle.ring_queue.specs.declared.code.walking.WalkAt.TheVariants.{LoadSlot};
 
-use crate::call_parts::walking::{
-    Found, STRIDE, Walk, WalkAt, behind, place_of, walk_access, walk_on,
-};
-use crate::fast_paths::take_fast::take_fast;
+use crate::code::walk::Walk;
+use crate::code::taking::{Answer, TakeAt, TakeOp};
+use crate::code::walking::{FAST_ROUNDS, WalkAt};
 use crate::life::ring::{Answered, Pass, RingQueue};
-use crate::life::spare::Spare;
-use crate::rule::Ringed;
-use atomic_table::Seat;
 use bounded_model::{Stepped, TakeRefused};
-use index_list::move_out;
-use machine::seats::View;
-use ring_table::layout::HEAD;
 use ring_table::{Operation, SeatLine};
-use running::{Access, Code, Next, Op, Outcome, Replies, leave, raised, told, whole};
+use running::{Next, Op, any, aside, fast_step, first_step, leave, told, whole};
 use std::sync::Wait;
 
-/// A take that was begun.
-pub type TakeOp<T> = Op<T, SeatLine<T>, Operation<T>, TakeAt<T>>;
-
-/// The next step of a take, with what it has read and holds.
-#[derive(Drop)]
-pub enum TakeAt<T> {
-    /// On the way to the front.
-    Walking(WalkAt),
-    /// Exchange the spare cell, which is empty, for the cell of the full slot.
-    Exchange(Found),
-    /// The value is taken at the position of the walk. Compare-and-swap `HEAD` for the next
-    /// position.
-    PassHead(Walk, T),
-    /// Load the slot that the walk has come to once more, and lay the spare cell back home.
-    Stow(Walk, T),
+/// A take's steps on its fast path, until another pass is faster.
+#[inline(always)]
+pub(crate) fn take_fast<T>(
+    on: &RingQueue<T>,
+    by: Pass<T>,
+    take: &Operation<T>,
+) -> (
+    running::Pass<T, SeatLine<T>>,
+    Next<TakeAt<T>, Answered<Answer<T>>>,
+)
+    requires named { take.now ≡ TakeFirst }
+    requires pass { IsPassOf on.now by }
+    ensures ran { TakeRan on.now take.now by.pass result.0 result.1 }
+    ensures took { (pass_now result.0).steps ≤ (pass_now by.pass).steps + 12 }
+{
+    let Pass { pass, kept: spare } = by;
+    let table = &on.table.shared;
+    let begun = TakeAt::Walking(WalkAt::LoadHint(spare));
+    let (pass, walking) = fast_step!(
+        first_step(table, on, pass, begun, take),
+        TakeAt::Walking(walking) => walking
+    );
+    let WalkAt::LoadSlot(walk) = walking else {
+        aside();
+        return (pass, Next::On(TakeAt::Walking(walking)));
+    };
+    let (pass, at) = match take_fast_walk(on, pass, walk, take) {
+        (pass, Next::On(at)) => (pass, at),
+        other => return other,
+    };
+    let (pass, at) = fast_step!(take_fast_exchange(on, pass, at, take));
+    let (pass, at) = fast_step!(take_fast_pass(on, pass, at, take));
+    any(table, on, pass, at, take)
 }
 
-/// What a take answers.
-pub(crate) type Answer<T> = Result<(T, u64), TakeRefused>;
-
-// Why nothing can be taken at the front, or `None` if something can.
-#[inline(always)]
-fn refusal(end: &Found) -> Option<TakeRefused>
-    ensures { result ≡ refusal_at end.now.walk.at end.now.slot }
+// The walk, as long as the hint is near enough.
+#[inline]
+fn take_fast_walk<T>(
+    on: &RingQueue<T>,
+    by: running::Pass<T, SeatLine<T>>,
+    begun: Walk,
+    take: &Operation<T>,
+) -> (
+    running::Pass<T, SeatLine<T>>,
+    Next<TakeAt<T>, Answered<Answer<T>>>,
+)
+    requires named { take.now ≡ TakeFirst }
+    requires stands { TakeStands on.now by (Walking (LoadSlot begun)) }
+    ensures ran { TakeRan on.now take.now by result.0 result.1 }
+    ensures took { (pass_now result.0).steps ≤ (pass_now by).steps + 8 }
 {
-    if end.slot.has_second() {
-        return Some(TakeRefused::Shut);
+    let mut pass = by;
+    let mut walk = begun;
+    for _gone in 0..FAST_ROUNDS {
+        let read = TakeAt::Walking(WalkAt::LoadSlot(walk));
+        match any(&on.table.shared, on, pass, read, take) {
+            (next, Next::On(at)) => match at {
+                TakeAt::Walking(walking) => match walking {
+                    WalkAt::LoadSlot(further) => {
+                        pass = next;
+                        walk = further;
+                    }
+                    walking => return (next, Next::On(TakeAt::Walking(walking))),
+                },
+                at => return (next, Next::On(at)),
+            },
+            other => return other,
+        }
     }
-    if end.slot.tag() == end.walk.empty + 1 {
-        return None;
-    }
-    if end.slot.is_marked() {
-        return Some(TakeRefused::Closed);
-    }
-    Some(TakeRefused::Empty)
+    (pass, Next::On(TakeAt::Walking(WalkAt::LoadSlot(walk))))
+}
+
+// The exchange, which takes the value.
+#[inline]
+fn take_fast_exchange<T>(
+    on: &RingQueue<T>,
+    by: running::Pass<T, SeatLine<T>>,
+    there: TakeAt<T>,
+    take: &Operation<T>,
+) -> (
+    running::Pass<T, SeatLine<T>>,
+    Next<TakeAt<T>, Answered<Answer<T>>>,
+)
+    requires named { take.now ≡ TakeFirst }
+    requires stands { TakeStands on.now by there }
+    ensures ran { TakeRan on.now take.now by result.0 result.1 }
+    ensures took { (pass_now result.0).steps ≤ (pass_now by).steps + 1 }
+{
+    let TakeAt::Exchange(end) = there else {
+        aside();
+        return (by, Next::On(there));
+    };
+    any(&on.table.shared, on, by, TakeAt::Exchange(end), take)
+}
+
+// The move of the head, which follows one take in four.
+#[inline]
+fn take_fast_pass<T>(
+    on: &RingQueue<T>,
+    by: running::Pass<T, SeatLine<T>>,
+    taken: TakeAt<T>,
+    take: &Operation<T>,
+) -> (
+    running::Pass<T, SeatLine<T>>,
+    Next<TakeAt<T>, Answered<Answer<T>>>,
+)
+    requires named { take.now ≡ TakeFirst }
+    requires stands { TakeStands on.now by taken }
+    ensures ran { TakeRan on.now take.now by result.0 result.1 }
+    ensures took { (pass_now result.0).steps ≤ (pass_now by).steps + 1 }
+{
+    let TakeAt::PassHead(walk, value) = taken else {
+        return (by, Next::On(taken));
+    };
+    let passing = TakeAt::PassHead(walk, value);
+    any(&on.table.shared, on, by, passing, take)
 }
 
 impl<T> RingQueue<T> {
@@ -126,86 +219,4 @@ impl<T> RingQueue<T> {
             under_way => leave(self, under_way, take),
         }
     }
-}
-
-impl<T> Code<RingQueue<T>, T, SeatLine<T>, Operation<T>, Ringed, Answered<Answer<T>>, 0>
-    for TakeAt<T> {
-    ghost use Rattle.ring_queue.specs.Taking.{take_account};
-
-    ghost account = { take_account };
-
-    #[inline]
-    fn is_refusal(answer: &Answered<Answer<T>>) -> bool {
-        answer.reply.is_err()
-    }
-
-    #[inline(always)]
-    fn access(&self, on: &RingQueue<T>) -> Access {
-        match self {
-            TakeAt::Walking(at) => walk_access(on, HEAD, at),
-            TakeAt::Exchange(end) => {
-                let new = raised(end.slot, end.walk.spare.index);
-                Access::Bring(end.walk.place, end.slot, new)
-            }
-            TakeAt::PassHead(walk, _) => Access::Swap(HEAD, walk.from, behind(on, walk.at)),
-            TakeAt::Stow(walk, _) => Access::Stow(walk.place),
-        }
-    }
-
-    #[inline(always)]
-    fn next(
-        self,
-        on: &RingQueue<T>,
-        seat: &mut Seat<Option<T>, View<T, SeatLine<T>>>,
-        outcome: Outcome,
-    ) -> Next<TakeAt<T>, Answered<Answer<T>>> {
-        match self {
-            TakeAt::Walking(at) => match walk_on(on, 1, at, outcome) {
-                Next::On(at) => Next::On(TakeAt::Walking(at)),
-                Next::Lost(at) => Next::Lost(TakeAt::Walking(at)),
-                Next::Done(end) => match refusal(&end) {
-                    None => Next::On(TakeAt::Exchange(end)),
-                    Some(why) => Next::Done(Answered {
-                        kept: end.walk.spare,
-                        reply: Err(why),
-                    }),
-                },
-            },
-            TakeAt::Exchange(end) => {
-                if !outcome.won {
-                    // Another take was faster, so the walk continues by one slot: a wait would only
-                    // make it longer.
-                    return Next::On(TakeAt::Walking(WalkAt::LoadSlot(end.walk)));
-                }
-                // The take has its effect here; the value moves out with the cell that came.
-                let cell = end.slot.index();
-                let value = move_out(&on.table.shared, seat, cell);
-                let walk = end.walk.with(Spare { index: cell });
-                if walk.gone + 1 == STRIDE {
-                    return Next::On(TakeAt::PassHead(walk, value));
-                }
-                Next::On(TakeAt::Stow(walk, value))
-            }
-            // Whichever pass succeeds, the head is then no longer behind this take.
-            TakeAt::PassHead(walk, value) => Next::On(TakeAt::Stow(walk, value)),
-            TakeAt::Stow(walk, value) => Next::Done(Answered {
-                kept: walk.spare,
-                reply: Ok((value, place_of(on, walk.at))),
-            }),
-        }
-    }
-}
-
-impl<T> Replies<RingQueue<T>, T, SeatLine<T>, Operation<T>, Ringed, Spare, Answer<T>, 0>
-    for TakeAt<T> {
-    ghost use Rattle.std.specs.Prelude.{refl};
-    ghost use Rattle.ring_queue.specs.KeepsAnswers.{take_given, take_promises};
-
-    ghost gives = { take_promises };
-
-    ghost idle = { λ key o answer. refl };
-
-    ghost given = { take_given };
-
-    ghost kept = { λ key o answer. refl };
 }

@@ -2,9 +2,8 @@
 ghost use Rattle.bounded_model.specs.Laws.{Leaves};
 ghost use Rattle.running.specs.Ends.{IsRun, IsRunAfter};
 ghost use Rattle.running.specs.Kept.{acts_of_root};
-ghost use Rattle.ring_queue.specs.Leaving.{left_in};
-ghost use Rattle.ring_queue.specs.Ring.{shape_of, machine_of};
-ghost use Rattle.ring_queue.specs.Roots.{IsRootOf, root_in};
+ghost use Rattle.ring_queue.specs.code.Leaving.{left_in};
+ghost use Rattle.ring_queue.specs.Calls.{shape_of, machine_of, IsRootOf, root_in};
 
 use crate::life::rest::Rest;
 use crate::life::ring::{RingQueue, Root};

@@ -4,7 +4,7 @@ ghost use Rattle.std.specs.Prelude.{◌≡◌, ◌↔◌, ◌+◌, ◌≤◌, Is
 ghost use Rattle.tagged_index.specs.Limits.{capacity_of, passes_of};
 ghost use Rattle.tagged_index.specs.declared.word.TheConstants.{NULL};
 ghost use Rattle.bounded_model.specs.declared.container.TheConstants.{MIN_PASSES, MAX_PASSES};
-ghost use Rattle.ring_queue.specs.Limits.{laps_at};
+ghost use Rattle.ring_queue.specs.code.Machine.{laps_at};
 
 use bounded_model::{MAX_PASSES, MIN_PASSES};
 use tagged_index::{Limits, MAX_TAG, NULL};

@@ -4,9 +4,8 @@ ghost use Rattle.tagged_index.specs.declared.word.TheConstants.{NULL};
 ghost use Rattle.bounded_model.specs.Laws.{fresh};
 ghost use Rattle.ring_table.specs.Layout.{words_for, start_at};
 ghost use Rattle.ring_table.specs.Seats.{cells_from};
-ghost use Rattle.ring_queue.specs.Limits.{shape_at};
-ghost use Rattle.ring_queue.specs.Ring.{cells_of, shape_of};
-ghost use Rattle.ring_queue.specs.Roots.{IsRootOf, root_in};
+ghost use Rattle.ring_queue.specs.code.Machine.{shape_at};
+ghost use Rattle.ring_queue.specs.Calls.{cells_of, shape_of, IsRootOf, root_in};
 
 use crate::life::limits::RingLimits;
 use crate::life::ring::{RingQueue, Root};

@@ -3,9 +3,9 @@ ghost use Rattle.std.specs.Prelude.{◌≡◌, ℕ, ◌+◌, ◌*◌, ◌<◌, �
 ghost use Rattle.std.specs.Mem.Slots.{slots_items, slots_len, IsFull};
 ghost use Rattle.tagged_index.specs.declared.word.TheConstants.{NULL, MAX_TAG};
 ghost use Rattle.ring_table.specs.Layout.{words_for};
-ghost use Rattle.ring_queue.specs.Left.{next_slot, HasTaken, IsFront};
+ghost use Rattle.ring_queue.specs.code.Left.{next_slot, HasTaken, IsFront};
 
-use crate::call_parts::walking::STRIDE;
+use crate::code::walking::STRIDE;
 use atomic_table::Closed;
 use bounded_model::Leaving;
 use ring_table::layout;
@@ -76,8 +76,8 @@ fn front_of<T>(closed: &Closed<Option<T>, Global>, capacity: u32) -> u32
 }
 
 impl<T> Rest<T> {
-    ghost use Rattle.ring_queue.specs.Left.{values_from};
-    ghost use Rattle.ring_queue.specs.Leaving.{left_in};
+    ghost use Rattle.ring_queue.specs.code.Left.{values_from};
+    ghost use Rattle.ring_queue.specs.code.Leaving.{left_in};
 
     // What the slots have, from the front.
     pub(crate) fn of(closed: Closed<Option<T>, Global>, capacity: u32) -> Rest<T>
@@ -102,7 +102,7 @@ impl<T> Rest<T> {
 }
 
 impl<T> Leaving<T> for Rest<T> {
-    ghost use Rattle.ring_queue.specs.Leaving.{left_in};
+    ghost use Rattle.ring_queue.specs.code.Leaving.{left_in};
 
     ghost left = { left_in };
 

@@ -82,7 +82,7 @@ impl<T> HasTable<T, SeatLine<T>, Operation<T>, Ringed> for RingQueue<T> {
 }
 
 impl<T> Keeping<SeatLine<T>, Spare> for RingQueue<T> {
-    ghost use Rattle.ring_queue.specs.Ring.{keeps};
+    ghost use Rattle.ring_queue.specs.Calls.{keeps};
 
     ghost keeps = { keeps };
 }

@@ -10,7 +10,7 @@ use Rattle.queue_table.specs.Lines.{names}
 use Rattle.running.specs.Acts.{Course}
 use Rattle.running.specs.Going.{Going}
 use Rattle.running.specs.declared.passes.Pass.{Pass}
-use Rattle.ms_queue.specs.Queue.{Queue, room_of, limit_of, machine_of}
+use Rattle.ms_queue.specs.Calls.{Queue, room_of, limit_of, machine_of}
 use Rattle.runs.specs.queue.Bounded.{IsBounded}
 use Rattle.runs.proofs.queue.Queues.{bounded}
 use Rattle.runs.specs.Made.{HasMade}

@@ -15,14 +15,13 @@ use Rattle.running.specs.Passes.{begun_of}
 use Rattle.running.specs.declared.op.Op.{Op}
 use Rattle.runs.specs.Made.{MadeFor}
 use Rattle.runs.proofs.Made.{going}
-use Rattle.ms_queue.specs.KeepsAnswers.{put_promises, take_promises}
-use Rattle.ms_queue.specs.Putting.{IsPutting, PutOp, put_account}
-use Rattle.ms_queue.specs.Queue.{Queue, Pass, Answered, keeps, machine_of, pass_in, shape_of}
-use Rattle.ms_queue.specs.Taking.{IsTaking, TakeOp, take_account}
+use Rattle.ms_queue.specs.code.KeepsAnswers.{put_promises, take_promises}
+use Rattle.ms_queue.specs.Calls.{IsPutting, PutOp, Queue, Pass, keeps, machine_of, pass_in, shape_of, IsTaking, TakeOp, PutTried, TakeTried}
+use Rattle.ms_queue.specs.code.Putting.{put_account}
+use Rattle.ms_queue.specs.code.Machine.{Answered, is_call}
+use Rattle.ms_queue.specs.code.Taking.{take_account}
 use Rattle.running.specs.Kept.{WasRun}
 use Rattle.bounded_model.specs.declared.commands.Command.TheVariants.{Put, Take}
-use Rattle.ms_queue.specs.Calls.{is_call}
-use Rattle.ms_queue.specs.Trying.{PutTried, TakeTried}
 use Rattle.runs.specs.queue.Progress.{EndsOrOvertaken}
 use Rattle.runs.proofs.queue.Progress.{overtaken}
 

@@ -3,7 +3,7 @@ use Rattle.std.proofs.Common.{◌≡◌, ℕ, ◌+◌, ◌*◌, ◌<◌, false, 
 use Rattle.tagged_index.specs.declared.limit.Limits.{Limits}
 use Rattle.bounded_model.specs.declared.views.PassView.{PassView}
 use Rattle.machine.specs.Seats.{Acts, acts_before, acts_now, pass_of}
-use Rattle.ring_queue.specs.Ring.{RingQueue, room_of, laps_of, passes_of, machine_of}
+use Rattle.ring_queue.specs.Calls.{RingQueue, room_of, laps_of, passes_of, machine_of}
 use Rattle.runs.specs.ring.Bounded.{IsBounded}
 use Rattle.runs.proofs.ring.Overtaken.{bounded}
 use Rattle.ring_table.specs.Core.{core}

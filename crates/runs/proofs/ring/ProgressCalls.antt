@@ -8,14 +8,14 @@ use Rattle.bounded_model.specs.declared.answers.TakeRefused.{TakeRefused}
 use Rattle.bounded_model.specs.declared.views.Answered.TheVariants as answered
 use Rattle.bounded_model.specs.declared.views.PassView.{PassView}
 use Rattle.bounded_model.specs.Laws.{Answers, PutGives, TakeGives, put_answered}
-use Rattle.ring_queue.specs.KeepsAnswers.{put_promises, take_promises}
-use Rattle.ring_queue.specs.Putting.{IsPutting, PutOp, put_account}
-use Rattle.ring_queue.specs.Ring.{RingQueue, Pass, Answered, keeps, machine_of, pass_in, shape_of}
-use Rattle.ring_queue.specs.Taking.{IsTaking, TakeOp, take_account}
+use Rattle.ring_queue.specs.code.KeepsAnswers.{put_promises}
+use Rattle.ring_queue.specs.code.KeepsAnswers.{take_promises}
+use Rattle.ring_queue.specs.Calls.{IsPutting, PutOp, RingQueue, Pass, keeps, machine_of, pass_in, shape_of, IsTaking, TakeOp, PutTried, TakeTried}
+use Rattle.ring_queue.specs.code.Putting.{put_account}
+use Rattle.ring_queue.specs.code.Machine.{Answered, is_call}
+use Rattle.ring_queue.specs.code.Taking.{take_account}
 use Rattle.running.specs.Kept.{WasRun}
 use Rattle.bounded_model.specs.declared.commands.Command.TheVariants.{Put, Take}
-use Rattle.ring_queue.specs.Calls.{is_call}
-use Rattle.ring_queue.specs.Trying.{PutTried, TakeTried}
 use Rattle.ring_table.specs.declared.line.SeatLine.{SeatLine}
 use Rattle.ring_table.specs.declared.operation.Operation.{Operation}
 use Rattle.running.specs.Code.{Account}

@@ -10,7 +10,7 @@ use Rattle.stack_table.specs.Lines.{PutsMany, call_of, first_line, names}
 use Rattle.running.specs.Acts.{Course}
 use Rattle.running.specs.Going.{Going}
 use Rattle.running.specs.declared.passes.Pass.{Pass}
-use Rattle.treiber_stack.specs.Stack.{Stack, room_of, limit_of, machine_of}
+use Rattle.treiber_stack.specs.Calls.{Stack, room_of, limit_of, machine_of}
 use Rattle.runs.specs.stack.Bounded.{IsBounded}
 use Rattle.runs.proofs.stack.Stacks.{bounded}
 use Rattle.step_core.specs.stack.Bound.{IsSingle}

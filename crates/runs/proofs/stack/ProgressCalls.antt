@@ -16,14 +16,14 @@ use Rattle.running.specs.declared.op.Op.{Op}
 use Rattle.step_core.specs.stack.Bound.{IsSingle}
 use Rattle.runs.specs.Made.{MadeFor}
 use Rattle.runs.proofs.Made.{going}
-use Rattle.treiber_stack.specs.Putting.{IsPutting, PutOp, put_account}
-use Rattle.treiber_stack.specs.Stack.{Answered, Pass, Stack, keeps, machine_of, shape_of, pass_in, begun_of}
-use Rattle.treiber_stack.specs.Taking.{IsTaking, TakeOp, take_account}
+use Rattle.treiber_stack.specs.Calls.{IsPutting, PutOp, Pass, Stack, keeps, machine_of, shape_of, pass_in, begun_of, IsTaking, TakeOp, PutTried, TakeTried}
+use Rattle.treiber_stack.specs.code.Putting.{put_account}
+use Rattle.treiber_stack.specs.code.Machine.{Answered, is_call}
+use Rattle.treiber_stack.specs.code.Taking.{take_account}
 use Rattle.running.specs.Kept.{WasRun}
 use Rattle.bounded_model.specs.declared.commands.Command.TheVariants.{Put, Take}
-use Rattle.treiber_stack.specs.Calls.{is_call}
-use Rattle.treiber_stack.specs.Trying.{PutTried, TakeTried}
-use Rattle.treiber_stack.specs.KeepsAnswers.{put_promises, take_promises}
+use Rattle.treiber_stack.specs.code.KeepsAnswers.{put_promises}
+use Rattle.treiber_stack.specs.code.KeepsAnswers.{take_promises}
 use Rattle.runs.specs.stack.Progress.{EndsOrOvertaken}
 use Rattle.runs.proofs.stack.Progress.{overtaken}
 

@@ -24,7 +24,7 @@ use Rattle.runs.specs.Made.{HasMade}
 use Rattle.runs.specs.Runs.{Below, schedule_of}
 use Rattle.step_core.specs.queue.Object.{object, answer}
 use Rattle.running.specs.Ends.{IsRun}
-use Rattle.ms_queue.specs.Queue.{Queue, Pass as QueuePass, room_of, limit_of, machine_of}
+use Rattle.ms_queue.specs.Calls.{Queue, Pass as QueuePass, room_of, limit_of, machine_of}
 
 module _ {T : Type 0} (c : Queue T) (o : Operation T) (p : Pass T (Line T)) where
   abbrev pub before : Acts (Line T)

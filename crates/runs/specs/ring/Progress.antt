@@ -6,7 +6,7 @@ use Rattle.bounded_model.specs.Stepping.{MatchStepped}
 use Rattle.bounded_model.specs.declared.views.RootView.{RootView}
 use Rattle.machine.specs.Progress.{others_win}
 use Rattle.machine.specs.Seats.{Acts, Extends, acts_before, acts_now}
-use Rattle.ring_queue.specs.Ring.{RingQueue, Pass as RingPass, room_of, laps_of, passes_of, machine_of}
+use Rattle.ring_queue.specs.Calls.{RingQueue, Pass as RingPass, room_of, laps_of, passes_of, machine_of}
 use Rattle.runs.specs.ring.Bounded.{IsBounded, call_at, call_in, state_after}
 use Rattle.runs.specs.ring.Linearizable.{answer_at}
 use Rattle.runs.specs.ring.Machine.{cell_ring}

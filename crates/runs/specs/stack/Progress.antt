@@ -24,7 +24,7 @@ use Rattle.runs.specs.Heard.{IsLinearizable}
 use Rattle.runs.specs.Made.{HasMade}
 use Rattle.runs.specs.Runs.{Below, schedule_of}
 use Rattle.step_core.specs.stack.Object.{object, answer}
-use Rattle.treiber_stack.specs.Stack.{Stack, Pass as StackPass, room_of, limit_of, machine_of}
+use Rattle.treiber_stack.specs.Calls.{Stack, Pass as StackPass, room_of, limit_of, machine_of}
 
 module _ {T : Type 0} (c : Stack T) (o : Operation T) (p : Pass T (Line T)) where
   abbrev pub before : Acts (Line T)

@@ -4,18 +4,9 @@ ghost use Rattle.bounded_model.specs.Laws.{Leaves, NoneOut};
 ghost use Rattle.bounded_model.specs.declared.commands.Command.{Command};
 ghost use Rattle.bounded_model.specs.declared.views.PassView.{PassView};
 ghost use Rattle.ring_machine.specs.Machine.{resting};
-ghost use Rattle.ring_queue.specs.Leaving.{left_in};
-ghost use Rattle.ring_queue.specs.Ring.{
-  Answered as HasAnswered,
-  IsPassOf,
-  machine_of,
-  pass_in,
-  passes_of,
-  shape_of,
-};
-ghost use Rattle.ring_queue.specs.Roots.{IsRootOf, root_in};
-ghost use Rattle.ring_queue.specs.Stepwise.{IsMakingCall, making};
-ghost use Rattle.ring_queue.specs.Trying.{PutTried, TakeTried};
+ghost use Rattle.ring_queue.specs.code.Leaving.{left_in};
+ghost use Rattle.ring_queue.specs.code.Machine.{Answered as HasAnswered};
+ghost use Rattle.ring_queue.specs.Calls.{IsPassOf, machine_of, pass_in, passes_of, shape_of, IsRootOf, root_in, IsMakingCall, making, PutTried, TakeTried};
 ghost use Rattle.ring_table.specs.declared.line.SeatLine.{SeatLine};
 ghost use Rattle.runs.specs.ring.Work.{fee};
 ghost use Rattle.runs.specs.Work.{total_steps, total_fees};

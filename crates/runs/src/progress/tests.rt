@@ -4,9 +4,8 @@ ghost use Rattle.std.specs.Prelude.{◌≡◌, ℕ, ◌+◌, ◌≤◌, List, []
 ghost use Rattle.bounded_model.specs.declared.answers.PutRefused.{PutRefused};
 ghost use Rattle.bounded_model.specs.declared.answers.TakeRefused.{TakeRefused};
 ghost use Rattle.bounded_model.specs.declared.views.Answered.TheVariants.{Put, Take};
-ghost use Rattle.ms_queue.specs.Queue.{IsPassOf, IsRootOf, pass_in, root_in};
-ghost use Rattle.ring_queue.specs.Ring.{IsPassOf as IsRingPassOf, pass_in as ring_pass_in, passes_of};
-ghost use Rattle.ring_queue.specs.Roots.{IsRootOf as IsRingRootOf, root_in as ring_root_in};
+ghost use Rattle.ms_queue.specs.Calls.{IsPassOf, IsRootOf, pass_in, root_in};
+ghost use Rattle.ring_queue.specs.Calls.{IsPassOf as IsRingPassOf, pass_in as ring_pass_in, passes_of, IsRootOf as IsRingRootOf, root_in as ring_root_in};
 
 use crate::progress::{queue, ring, stack};
 use bounded_model::{Container, Stepped};

@@ -6,8 +6,8 @@ ghost use Rattle.index_list.specs.declared.front.Front.TheVariants.{First, Last}
 ghost use Rattle.bounded_model.specs.Stepping.{no_step};
 ghost use Rattle.running.specs.Ops.{underway_of};
 ghost use Rattle.running.specs.Passes as passes;
-ghost use Rattle.treiber_stack.specs.FoldOp.{IsFolding, FoldTried, FoldSteps};
-ghost use Rattle.treiber_stack.specs.Stack.{IsPassOf, machine_of, pass_in, begun_of};
+ghost use Rattle.treiber_stack.specs.Bulk.{IsFolding, FoldTried, FoldSteps};
+ghost use Rattle.treiber_stack.specs.Calls.{IsPassOf, machine_of, pass_in, begun_of};
 
 use crate::bulk::folding::{FoldAt, FoldStop};
 use crate::life::stack::{Pass, Stack};

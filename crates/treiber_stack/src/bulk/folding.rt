@@ -8,11 +8,10 @@ ghost use Rattle.stack_machine.specs.Deeds.{in_order};
 ghost use Rattle.stack_table.specs.Lines.{direction};
 ghost use Rattle.index_list.specs.declared.front.Front.TheVariants.{First, Last};
 ghost use Rattle.stack_table.specs.declared.operation.Operation.TheVariants.{Fold as FoldFirst};
-ghost use Rattle.treiber_stack.specs.Ran.{WasFolded};
-ghost use Rattle.treiber_stack.specs.Stack.{call_of, pass_in, IsPassOf};
+ghost use Rattle.treiber_stack.specs.Calls.{WasFolded, call_of, pass_in, IsPassOf};
 
-use crate::call_parts::giving::{Chain, Give, give_access, give_next};
-use crate::call_parts::refusing::bars_take;
+use crate::code::giving::{Chain, Give, give_access, give_next};
+use crate::code::refusing::bars_take;
 use crate::life::stack::{Pass, Stack};
 use crate::rule::Stacked;
 use atomic_table::Seat;
@@ -194,7 +193,7 @@ pub(crate) fn take_out<T>(on: &Stack<T>, by: &mut running::Pass<T, Line<T>>, ind
 }
 
 impl<T> Code<Stack<T>, T, Line<T>, Operation<T>, Stacked, FoldStop<T>, 2> for FoldAt<T> {
-    ghost use Rattle.treiber_stack.specs.Folding.{fold_account};
+    ghost use Rattle.treiber_stack.specs.code.Folding.{fold_account};
 
     ghost account = { fold_account };
 

@@ -3,14 +3,14 @@
 ghost use Rattle.std.specs.Prelude.{◌≡◌, ◌+◌, ◌<◌, ◌≤◌, List};
 ghost use Rattle.machine.specs.Seats.{Looks};
 ghost use Rattle.running.specs.Passes.{pass_in};
-ghost use Rattle.treiber_stack.specs.Ranging.{HasTaken, FillsOne, IsNext, IsRefused, Restores, ReadsAgain};
-ghost use Rattle.treiber_stack.specs.Stack.{room_of, shape_of};
-ghost use Rattle.treiber_stack.specs.declared.call_parts.refusing.Barred.{Barred};
+ghost use Rattle.treiber_stack.specs.code.Ranging.{HasTaken, FillsOne, IsNext, IsRefused, Restores, ReadsAgain};
+ghost use Rattle.treiber_stack.specs.Calls.{room_of, shape_of};
+ghost use Rattle.treiber_stack.specs.declared.code.refusing.Barred.{Barred};
 
 use crate::bulk::folding::take_out;
 use crate::bulk::range_steps::Held;
 use crate::bulk::source::Source;
-use crate::call_parts::giving::Chain;
+use crate::code::giving::Chain;
 use crate::life::stack::Stack;
 use index_list::put_in;
 use running::{Pass, peek, store_link_step};

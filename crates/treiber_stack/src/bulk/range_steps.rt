@@ -3,12 +3,12 @@
 ghost use Rattle.std.specs.Prelude.{List};
 ghost use Rattle.bounded_model.specs.Stepping.{MatchStepped};
 ghost use Rattle.running.specs.Steps.{TookFor};
-ghost use Rattle.treiber_stack.specs.RangeTrying.{HasStopped, IsRangeOf, RanOn};
-ghost use Rattle.treiber_stack.specs.Stack.{begun_of};
+ghost use Rattle.treiber_stack.specs.code.RangeTrying.{HasStopped, IsRangeOf, RanOn};
+ghost use Rattle.treiber_stack.specs.Calls.{begun_of};
 
-use crate::call_parts::begun::Begun;
-use crate::call_parts::giving::{Chain, Give, give_access, give_next};
-use crate::call_parts::refusing::{Barred, NoNode, bars_free, bars_put};
+use crate::code::begun::Begun;
+use crate::code::giving::{Chain, Give, give_access, give_next};
+use crate::code::refusing::{Barred, NoNode, bars_free, bars_put};
 use crate::life::stack::Stack;
 use crate::rule::Stacked;
 use atomic_table::Seat;
@@ -122,7 +122,7 @@ pub(crate) fn try_range<T>(
 }
 
 impl<T> Code<Stack<T>, T, Line<T>, Operation<T>, Stacked, RangeStopped<T>, 2> for Range<T> {
-    ghost use Rattle.treiber_stack.specs.Ranging.{range_account};
+    ghost use Rattle.treiber_stack.specs.code.Ranging.{range_account};
 
     ghost account = { range_account };
 

@@ -2,16 +2,16 @@
 //! the steps are used up, it comes back as it is, begun as before.
 ghost use Rattle.std.specs.Prelude.{◌≡◌, List, [], length, MatchOption};
 ghost use Rattle.bounded_model.specs.declared.views.PassView.{PassView};
-ghost use Rattle.treiber_stack.specs.Ran.{IsRange};
-ghost use Rattle.treiber_stack.specs.RangeTrying.{HasStopped, IsRangeOp, RangeCame, RangeMost, RangeStarts, RangeSteps, StoppedAt, left_after, left_at};
-ghost use Rattle.treiber_stack.specs.Stack.{IsPassOf, begun_of, pass_in};
+ghost use Rattle.treiber_stack.specs.Calls.{IsRange, IsPassOf, begun_of, pass_in};
+ghost use Rattle.treiber_stack.specs.code.RangeTrying.{HasStopped, IsRangeOp, RangeCame, RangeStarts, StoppedAt, left_after, left_at};
+ghost use Rattle.treiber_stack.specs.Bulk.{RangeMost, RangeSteps};
 ghost use Rattle.treiber_stack.specs.declared.bulk.range_steps.RangeAt.{RangeAt};
 ghost use Rattle.treiber_stack.specs.declared.bulk.range_steps.RangeStop.TheVariants.{Over};
 
 use crate::bulk::loading::{load_node, restore};
 use crate::bulk::range_steps::{Held, RangeAt, RangeEnd, RangeState, RangeStop, try_range};
 use crate::bulk::source::Source;
-use crate::call_parts::giving::{Chain, Give};
+use crate::code::giving::{Chain, Give};
 use crate::life::stack::{Pass, Stack};
 use bounded_model::{RangeRefused, Ranged, Stepped, Word};
 use running::Op;

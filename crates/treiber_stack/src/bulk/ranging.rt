@@ -5,10 +5,9 @@ ghost use Rattle.std.specs.Prelude.{◌≡◌, List, length, IsSome};
 ghost use Rattle.std.specs.List.{AllByRecursion as Every};
 ghost use Rattle.bounded_model.specs.declared.answers.Stepped.TheVariants.{Done};
 ghost use Rattle.bounded_model.specs.Bulk.{PutsRange, RangeAnswers, somes};
-ghost use Rattle.treiber_stack.specs.Copying.{CopyBegun, CopyTried, IsCopying};
-ghost use Rattle.treiber_stack.specs.Ran.{WasRange};
-ghost use Rattle.treiber_stack.specs.RangeTrying.{IsRangeOp, IsRanging, RangeBegun, RangeCame, RangeMost, RangeSteps, RangeTried, left_at, put_of};
-ghost use Rattle.treiber_stack.specs.Stack.{IsPassOf, begun_of, call_of, pass_in};
+ghost use Rattle.treiber_stack.specs.Bulk.{CopyBegun, CopyTried, IsCopying, IsRanging, RangeBegun, RangeMost, RangeSteps, RangeTried};
+ghost use Rattle.treiber_stack.specs.Calls.{WasRange, IsPassOf, begun_of, call_of, pass_in};
+ghost use Rattle.treiber_stack.specs.code.RangeTrying.{IsRangeOp, RangeCame, left_at, put_of};
 
 use crate::bulk::range_trying::{RangeMade, RangeOp, begin, run_for};
 use crate::bulk::source::{Copies, Places, Source, put_of_copies, put_of_places};

@@ -2,8 +2,8 @@
 ghost use Rattle.std.specs.Prelude.{◌≡◌, ℕ, ◌+◌, ◌<◌, ◌≤◌, List, [], length, map, Some, IsSome, MatchOption};
 ghost use Rattle.std.specs.List.{AllByRecursion as Every};
 ghost use Rattle.stack_table.specs.Lines.{listed};
-ghost use Rattle.treiber_stack.specs.Ran.{IsRange};
-ghost use Rattle.treiber_stack.specs.Ranging.{IsNext};
+ghost use Rattle.treiber_stack.specs.Calls.{IsRange};
+ghost use Rattle.treiber_stack.specs.code.Ranging.{IsNext};
 
 use stack_table::{Listed, Operation};
 use std::snapshot::Snapshot;
@@ -47,7 +47,7 @@ pub(crate) struct Places<'a, T> {
 
 impl<'a, T> Source<T> for Places<'a, T> {
     ghost use Rattle.std.specs.Prelude.{◌≡◌, ℕ};
-    ghost use Rattle.treiber_stack.specs.Ranging.{places_from};
+    ghost use Rattle.treiber_stack.specs.code.Ranging.{places_from};
 
     ghost left = { λ s vs k. s.places.now ≡ places_from k vs };
 

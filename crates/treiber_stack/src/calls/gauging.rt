@@ -4,8 +4,8 @@ ghost use Rattle.bounded_model.specs.declared.views.Answered.TheVariants.{Gauge 
 ghost use Rattle.stack_machine.specs.Machine.{ends};
 ghost use Rattle.stack_machine.specs.declared.lines.Answer.TheVariants.{Gauge as Gauged};
 ghost use Rattle.stack_machine.specs.declared.lines.Line.TheVariants.{LoadTopToGauge};
-ghost use Rattle.treiber_stack.specs.Gauging.{GaugeGives};
-ghost use Rattle.treiber_stack.specs.Stack.{IsPassOf, OneLine, limit_of, pass_in, room_of};
+ghost use Rattle.treiber_stack.specs.Calls.{GaugeGives, IsPassOf, limit_of, pass_in, room_of};
+ghost use Rattle.treiber_stack.specs.code.Steps.{OneLine};
 
 use crate::life::stack::{Pass, Stack};
 use running::load_top_step;

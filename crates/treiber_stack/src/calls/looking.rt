@@ -1,4 +1,4 @@
-//! Looking whether a stack is empty: one load of its top. By steps, and by a whole call.
+//! Looking whether a stack is empty: one load of its top.
 ghost use Rattle.std.specs.Prelude.{◌≡◌, ◌≤◌, ◌+◌};
 ghost use Rattle.bounded_model.specs.Laws.{Answers, LookGives};
 ghost use Rattle.bounded_model.specs.Stepping.{MatchStepped, no_step};
@@ -11,40 +11,20 @@ ghost use Rattle.stack_machine.specs.Machine.{ends};
 ghost use Rattle.stack_machine.specs.declared.lines.Answer.TheVariants.{Look as Looked};
 ghost use Rattle.stack_machine.specs.declared.lines.Line.TheVariants.{LoadTopToLook};
 ghost use Rattle.stack_table.specs.declared.operation.Operation.TheVariants.{Look as LookFirst};
-ghost use Rattle.treiber_stack.specs.Calls.{is_call};
-ghost use Rattle.treiber_stack.specs.Looking.{HasLooked, IsLooking, LookRan, look_account};
-ghost use Rattle.treiber_stack.specs.Ran.{WasRun};
-ghost use Rattle.treiber_stack.specs.Stack.{
-  IsPassOf,
-  IsSeatOf,
-  OneLine,
-  machine_of,
-  pass_in,
-  shape_of,
-};
-ghost use Rattle.treiber_stack.specs.Trying.{LookTried};
+ghost use Rattle.treiber_stack.specs.code.Machine.{is_call};
+ghost use Rattle.treiber_stack.specs.code.Steps.{HasLooked, LookRan, IsSeatOf, OneLine};
+ghost use Rattle.treiber_stack.specs.Calls.{IsLooking, WasRun, IsPassOf, machine_of, pass_in, shape_of, LookTried};
+ghost use Rattle.treiber_stack.specs.code.Looking.{look_account};
 
+use crate::code::looking::{LookAt, LookOp};
 use crate::life::stack::{Answered, Pass, Stack};
-use crate::rule::Stacked;
-use atomic_table::Seat;
 use bounded_model::Stepped;
-use machine::View;
-use running::{Access, Code, Next, Op, Outcome, Replies, leave, load_top_step, whole};
+use running::{Next, Op, leave, load_top_step, whole};
 use stack_machine::Line;
 use stack_table::Operation;
 use stack_table::layout::STACK_LIST;
 use std::sync::Wait;
-use tagged_index::{NULL, Tagged};
-
-/// A look that was begun.
-pub type LookOp<T> = Op<T, Line<T>, Operation<T>, LookAt>;
-
-/// The next step of a look. It has one.
-#[derive(Drop)]
-pub enum LookAt {
-    /// Load `TOP`.
-    Load,
-}
+use tagged_index::NULL;
 
 impl<T> Stack<T> {
     /// Whether the stack held no value at some time since its pass's last step before the call, also
@@ -142,45 +122,4 @@ pub(crate) fn look_once<T>(
     let mut pass = by;
     let top = load_top_step(&on.table.shared, &mut pass.seat, STACK_LIST, look);
     (pass, top.index() == NULL)
-}
-
-impl<T> Code<Stack<T>, T, Line<T>, Operation<T>, Stacked, Answered<bool>, 2> for LookAt {
-    ghost use Rattle.treiber_stack.specs.Looking.{look_account};
-
-    ghost account = { look_account };
-
-    #[inline(always)]
-    fn access(&self, _on: &Stack<T>) -> Access {
-        match self {
-            LookAt::Load => Access::LoadTop(STACK_LIST),
-        }
-    }
-
-    #[inline(always)]
-    fn next(
-        self,
-        _on: &Stack<T>,
-        _seat: &mut Seat<Option<T>, View<T, Line<T>>>,
-        outcome: Outcome,
-    ) -> Next<LookAt, Answered<bool>> {
-        match self {
-            LookAt::Load => Next::Done(Answered {
-                kept: (),
-                reply: Tagged::from_word(outcome.word).index() == NULL,
-            }),
-        }
-    }
-}
-
-impl<T> Replies<Stack<T>, T, Line<T>, Operation<T>, Stacked, (), bool, 2> for LookAt {
-    ghost use Rattle.std.specs.Prelude.{refl};
-    ghost use Rattle.treiber_stack.specs.KeepsAnswers.{look_given, look_promises};
-
-    ghost gives = { look_promises };
-
-    ghost idle = { λ key o answer. refl };
-
-    ghost given = { look_given };
-
-    ghost kept = { λ key o answer. tt };
 }

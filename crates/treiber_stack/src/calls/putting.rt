@@ -1,5 +1,21 @@
-//! Putting one value: by steps, and by a whole call. While the put has a node, the value is in the node's slot, and a
-//! snapshot shows it to proofs.
+//! Putting one value: the push of Treiber's stack (1986), with a tag in each word that is exchanged.
+//!
+//! What a put does if no other pass is faster, by the functions that follow:
+//! 1. `put_fast_node`: takes a free node from the list of free nodes, and the value moves into the
+//!    node's slot.
+//! 2. `put_fast_top`: loads the top, stores the node that it names in the link of the new node, and
+//!    exchanges the top for the new node, which is the put's effect.
+//!
+//! If no node is free, `put_fast_refuse` loads the top to see whether the stack was full or closed. If
+//! another pass was faster, the put is at some state of `PutAt`, and continues from there
+//! (code/putting.rt): it takes another node, or loads the top again. If the top has the mark, or its
+//! tag is at its limit, the put gives the node back, and the value moves out of the slot and is handed
+//! back.
+//!
+//! The steps are those of `next` in code/putting.rt: change these first. They are repeated here
+//! because a loop over states keeps its state in memory, and in parts of three steps because the
+//! compiler would not keep longer chains in their caller. The measure is the number of instructions
+//! of a put and a take in turn on one thread.
 ghost use Rattle.std.specs.Prelude.{◌≡◌, ◌≤◌, ◌+◌};
 ghost use Rattle.bounded_model.specs.Laws.{Answers, PutGives, put_answered};
 ghost use Rattle.bounded_model.specs.Stepping.{MatchStepped, no_step};
@@ -7,54 +23,119 @@ ghost use Rattle.bounded_model.specs.declared.commands.Command.TheVariants.{Put 
 ghost use Rattle.running.specs.Kept.{HasNewCall, WasRun};
 ghost use Rattle.running.specs.Ops.{underway_of};
 ghost use Rattle.running.specs.Passes.{pass_in as pass_now};
-ghost use Rattle.treiber_stack.specs.Calls.{is_call, put_of};
-ghost use Rattle.treiber_stack.specs.Putting.{IsPutting, put_account};
-ghost use Rattle.treiber_stack.specs.Stack.{IsPassOf, machine_of, pass_in, shape_of};
-ghost use Rattle.treiber_stack.specs.Trying.{PutTried};
+ghost use Rattle.treiber_stack.specs.code.Machine.{is_call, put_of};
+ghost use Rattle.treiber_stack.specs.Calls.{IsPutting, IsPassOf, machine_of, pass_in, shape_of, PutTried};
+ghost use Rattle.treiber_stack.specs.code.Putting.{put_account};
+ghost use Rattle.treiber_stack.specs.code.Steps.{PutStands, PutRan, IsSeatOf};
+ghost use Rattle.treiber_stack.specs.declared.code.putting.PutAt.TheVariants.{Refuse};
 
-use crate::call_parts::giving::{Chain, Give, give_access, give_next};
-use crate::call_parts::refusing::bars_put;
-use crate::fast_paths::put_fast::put_fast;
+use crate::code::putting::{Answer, PutAt, PutOp};
 use crate::life::stack::{Answered, Pass, Stack};
-use crate::rule::Stacked;
-use atomic_table::Seat;
-use bounded_model::{PutRefused, Stepped, Word};
-use index_list::{move_out, put_in};
-use machine::View;
-use running::{Access, Code, Next, Op, Outcome, Replies, leave, told, whole};
+use bounded_model::{PutRefused, Stepped};
+use running::{Next, Op, any, fast_step, first_step, leave, told, whole};
 use stack_machine::Line;
-use stack_table::layout::{FREE_LIST, STACK_LIST};
 use stack_table::{Listed, Operation};
 use std::snapshot::Snapshot;
 use std::sync::Wait;
-use tagged_index::{NULL, Tagged};
 
-/// A put that was begun.
-pub type PutOp<T> = Op<T, Line<T>, Operation<T>, PutAt<T>>;
-
-/// The next step of a put, with what it has read and holds.
-#[derive(Drop)]
-pub enum PutAt<T> {
-    /// Load `FREE`.
-    LoadFree(T),
-    /// Load the link of the free node.
-    Link(T, Tagged),
-    /// Compare-and-swap `FREE` for the next free node.
-    Hold(T, Tagged, u32),
-    /// Load `TOP`.
-    Load(Snapshot<T>, u32),
-    /// Link the node to the top one.
-    LinkTo(Snapshot<T>, u32, Tagged),
-    /// Compare-and-swap `TOP` for the node.
-    Exchange(Snapshot<T>, u32, Tagged),
-    /// No node is free: load `TOP`, to say why nothing can be put.
-    Refuse(T),
-    /// Give the node back.
-    GiveBack(PutRefused<T>, u32, Give),
+/// A put's steps on its fast path, as long as no other pass is faster.
+#[inline(always)]
+pub(crate) fn put_fast<T>(
+    on: &Stack<T>,
+    by: running::Pass<T, Line<T>>,
+    value: T,
+    put: &Operation<T>,
+) -> (
+    running::Pass<T, Line<T>>,
+    Next<PutAt<T>, Answered<Answer<T>>>,
+)
+    requires named { put.now ≡ put_of value }
+    requires pass { IsSeatOf on.now by }
+    ensures ran { PutRan on.now put.now by result.0 result.1 }
+    ensures took { (pass_now result.0).steps ≤ (pass_now by).steps + 6 }
+{
+    let (pass, at) = fast_step!(put_fast_node(on, by, value, put));
+    match at {
+        PutAt::Refuse(value) => put_fast_refuse(on, pass, value, put),
+        at => put_fast_top(on, pass, at, put),
+    }
 }
 
-/// What a put answers.
-pub(crate) type Answer<T> = Result<u64, PutRefused<T>>;
+// First the steps that take a node.
+#[inline]
+fn put_fast_node<T>(
+    on: &Stack<T>,
+    by: running::Pass<T, Line<T>>,
+    value: T,
+    put: &Operation<T>,
+) -> (
+    running::Pass<T, Line<T>>,
+    Next<PutAt<T>, Answered<Answer<T>>>,
+)
+    requires named { put.now ≡ put_of value }
+    requires pass { IsSeatOf on.now by }
+    ensures ran { PutRan on.now put.now by result.0 result.1 }
+    ensures took { (pass_now result.0).steps ≤ (pass_now by).steps + 3 }
+{
+    let table = &on.table.shared;
+    let (pass, value, free) = fast_step!(
+        first_step(table, on, by, PutAt::LoadFree(value), put),
+        PutAt::Link(value, free) => value, free
+    );
+    let (pass, value, free, below) = fast_step!(
+        any(table, on, pass, PutAt::Link(value, free), put),
+        PutAt::Hold(value, free, below) => value, free, below
+    );
+    any(table, on, pass, PutAt::Hold(value, free, below), put)
+}
+
+// The step that says why nothing can be put, if no node is free.
+#[inline]
+fn put_fast_refuse<T>(
+    on: &Stack<T>,
+    by: running::Pass<T, Line<T>>,
+    value: T,
+    put: &Operation<T>,
+) -> (
+    running::Pass<T, Line<T>>,
+    Next<PutAt<T>, Answered<Answer<T>>>,
+)
+    requires stands { PutStands on.now put.now by (Refuse value) }
+    ensures ran { PutRan on.now put.now by result.0 result.1 }
+    ensures took { (pass_now result.0).steps ≤ (pass_now by).steps + 1 }
+{
+    any(&on.table.shared, on, by, PutAt::Refuse(value), put)
+}
+
+// Then the steps that put the node onto the top.
+#[inline]
+fn put_fast_top<T>(
+    on: &Stack<T>,
+    by: running::Pass<T, Line<T>>,
+    has_node: PutAt<T>,
+    put: &Operation<T>,
+) -> (
+    running::Pass<T, Line<T>>,
+    Next<PutAt<T>, Answered<Answer<T>>>,
+)
+    requires stands { PutStands on.now put.now by has_node }
+    ensures ran { PutRan on.now put.now by result.0 result.1 }
+    ensures took { (pass_now result.0).steps ≤ (pass_now by).steps + 3 }
+{
+    let PutAt::Load(shown, index) = has_node else {
+        return (by, Next::On(has_node));
+    };
+    let table = &on.table.shared;
+    let (pass, shown, index, top) = fast_step!(
+        any(table, on, by, PutAt::Load(shown, index), put),
+        PutAt::LinkTo(shown, index, top) => shown, index, top
+    );
+    let (pass, shown, index, top) = fast_step!(
+        any(table, on, pass, PutAt::LinkTo(shown, index, top), put),
+        PutAt::Exchange(shown, index, top) => shown, index, top
+    );
+    any(table, on, pass, PutAt::Exchange(shown, index, top), put)
+}
 
 /// The put of this value.
 #[inline(always)]
@@ -134,128 +215,4 @@ impl<T> Stack<T> {
             under_way => leave(self, under_way, put),
         }
     }
-}
-
-impl<T> Code<Stack<T>, T, Line<T>, Operation<T>, Stacked, Answered<Answer<T>>, 2> for PutAt<T> {
-    ghost use Rattle.treiber_stack.specs.Putting.{put_account};
-
-    ghost account = { put_account };
-
-    #[inline]
-    fn is_refusal(answer: &Answered<Answer<T>>) -> bool {
-        answer.reply.is_err()
-    }
-
-    #[inline(always)]
-    fn access(&self, on: &Stack<T>) -> Access {
-        match self {
-            PutAt::LoadFree(_) => Access::LoadTop(FREE_LIST),
-            PutAt::Link(_, free) => Access::LoadLink(FREE_LIST, free.index()),
-            PutAt::Hold(_, free, below) => Access::Take(FREE_LIST, *free, *below),
-            PutAt::Load(_, _) => Access::LoadTop(STACK_LIST),
-            PutAt::LinkTo(_, index, top) => {
-                Access::StoreLink(STACK_LIST, *index, top.index() as u64)
-            }
-            PutAt::Exchange(_, index, top) => Access::GiveChain(STACK_LIST, *top, *index),
-            PutAt::Refuse(_) => Access::LoadTop(STACK_LIST),
-            PutAt::GiveBack(_, index, at) => give_access(on, Chain::of(*index), at),
-        }
-    }
-
-    #[inline(always)]
-    fn next(
-        self,
-        on: &Stack<T>,
-        seat: &mut Seat<Option<T>, View<T, Line<T>>>,
-        outcome: Outcome,
-    ) -> Next<PutAt<T>, Answered<Answer<T>>> {
-        match self {
-            PutAt::LoadFree(value) => {
-                let free = Tagged::from_word(outcome.word);
-                if free.index() == NULL {
-                    return Next::On(PutAt::Refuse(value));
-                }
-                if free.tag() >= on.limits.tag_limit() {
-                    let why = PutRefused::Spent(value, Word::Free, free.tag());
-                    return Next::Done(Answered {
-                        kept: (),
-                        reply: Err(why),
-                    });
-                }
-                Next::On(PutAt::Link(value, free))
-            }
-            PutAt::Link(value, free) => Next::On(PutAt::Hold(value, free, outcome.word as u32)),
-            PutAt::Hold(value, free, _) => {
-                if !outcome.won {
-                    return Next::Lost(PutAt::LoadFree(value));
-                }
-                // With the node comes its slot, and the value moves in.
-                let index = free.index();
-                let shown = Snapshot::of(&value);
-                put_in(&on.table.shared, seat, index, value);
-                Next::On(PutAt::Load(shown, index))
-            }
-            PutAt::Load(shown, index) => {
-                let top = Tagged::from_word(outcome.word);
-                match bars_put(on, top) {
-                    Some(why) => {
-                        // Nothing can be put: the value moves out of the slot.
-                        let value = move_out(&on.table.shared, seat, index);
-                        let why = why.of_put(value);
-                        Next::On(PutAt::GiveBack(why, index, Give::Load))
-                    }
-                    None => Next::On(PutAt::LinkTo(shown, index, top)),
-                }
-            }
-            PutAt::LinkTo(shown, index, top) => Next::On(PutAt::Exchange(shown, index, top)),
-            PutAt::Exchange(shown, index, top) => {
-                if outcome.won {
-                    // The put has had its effect.
-                    return Next::Done(Answered {
-                        kept: (),
-                        reply: Ok(top.tag()),
-                    });
-                }
-                Next::Lost(PutAt::Load(shown, index))
-            }
-            PutAt::Refuse(value) => {
-                let top = Tagged::from_word(outcome.word);
-                match bars_put(on, top) {
-                    Some(why) => Next::Done(Answered {
-                        kept: (),
-                        reply: Err(why.of_put(value)),
-                    }),
-                    None => Next::Done(Answered {
-                        kept: (),
-                        reply: Err(PutRefused::Full(value)),
-                    }),
-                }
-            }
-            PutAt::GiveBack(why, index, at) => match give_next(on, at, outcome) {
-                Next::On(at) => Next::On(PutAt::GiveBack(why, index, at)),
-                Next::Lost(at) => Next::Lost(PutAt::GiveBack(why, index, at)),
-                Next::Done(()) => Next::Done(Answered {
-                    kept: (),
-                    reply: Err(why),
-                }),
-            },
-        }
-    }
-}
-
-// The answer is the put's number, or a refusal, which hands the value back:
-// - with a free node: `Closed`, else `Spent` if the tag of the top is at its limit;
-// - without one: `Closed`, else `Spent`, else `Full`;
-// - `Spent` if the tag of the free nodes' top is at its limit.
-impl<T> Replies<Stack<T>, T, Line<T>, Operation<T>, Stacked, (), Answer<T>, 2> for PutAt<T> {
-    ghost use Rattle.std.specs.Prelude.{refl};
-    ghost use Rattle.treiber_stack.specs.KeepsAnswers.{put_given, put_promises};
-
-    ghost gives = { put_promises };
-
-    ghost idle = { λ key o answer. refl };
-
-    ghost given = { put_given };
-
-    ghost kept = { λ key o answer. tt };
 }

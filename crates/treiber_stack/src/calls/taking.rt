@@ -1,4 +1,19 @@
-//! Taking one value: by steps, and by a whole call.
+//! Taking one value: the pop of Treiber's stack (1986), with a tag in each word that is exchanged.
+//!
+//! What a take does if no other pass is faster, by the functions that follow:
+//! 1. `take_fast_top`: loads the top and the link of the node that it names, and exchanges the top for
+//!    that link, which is the take's effect. The tag sees to it that the link is still that of the top
+//!    node. The value moves out of the node's slot.
+//! 2. `take_fast_back`: gives the node to the list of free nodes.
+//!
+//! If the top names no node, the take is refused: the stack is empty, or closed if the top has the
+//! mark. It is refused too if the top has the second mark, because the stack is shut then, or if the
+//! top's tag is at its limit. If another pass was faster, the take is at some
+//! state of `TakeAt`, and continues from there (code/taking.rt): it loads the top again, or pushes the
+//! node again.
+//!
+//! The steps are those of `next` in code/taking.rt, repeated and cut in parts for the reasons that
+//! putting.rt gives. Change `next` first.
 ghost use Rattle.std.specs.Prelude.{◌≡◌, ◌≤◌, ◌+◌};
 ghost use Rattle.bounded_model.specs.Laws.{Answers, TakeGives};
 ghost use Rattle.bounded_model.specs.Stepping.{MatchStepped, no_step};
@@ -7,53 +22,97 @@ ghost use Rattle.bounded_model.specs.declared.views.Answered.TheVariants.{Take a
 ghost use Rattle.running.specs.Kept.{HasNewCall, WasRun};
 ghost use Rattle.running.specs.Ops.{underway_of};
 ghost use Rattle.running.specs.Passes.{pass_in as pass_now};
-ghost use Rattle.treiber_stack.specs.Calls.{is_call};
-ghost use Rattle.treiber_stack.specs.Stack.{IsPassOf, machine_of, pass_in, shape_of};
-ghost use Rattle.treiber_stack.specs.Taking.{IsTaking, take_account};
-ghost use Rattle.treiber_stack.specs.Trying.{TakeTried};
+ghost use Rattle.treiber_stack.specs.code.Machine.{is_call};
+ghost use Rattle.treiber_stack.specs.Calls.{IsPassOf, machine_of, pass_in, shape_of, IsTaking, TakeTried};
+ghost use Rattle.treiber_stack.specs.code.Steps.{IsSeatOf, TakeStands, TakeRan};
+ghost use Rattle.treiber_stack.specs.code.Taking.{take_account};
+ghost use Rattle.stack_table.specs.declared.operation.Operation.TheVariants.{Take as TakeFirst};
 
-use crate::call_parts::giving::{Chain, Give, give_access, give_next};
-use crate::call_parts::refusing::bars_take;
-use crate::fast_paths::take_fast::take_fast;
+use crate::code::giving::Give;
+use crate::code::taking::{Answer, TakeAt, TakeOp};
 use crate::life::stack::{Answered, Pass, Stack};
-use crate::rule::Stacked;
-use atomic_table::Seat;
 use bounded_model::{Stepped, TakeRefused};
-use index_list::move_out;
-use machine::View;
-use running::{Access, Code, Next, Op, Outcome, Replies, leave, told, whole};
+use running::{Next, Op, any, fast_step, first_step, leave, told, whole};
 use stack_machine::Line;
 use stack_table::Operation;
-use stack_table::layout::STACK_LIST;
 use std::sync::Wait;
-use tagged_index::Tagged;
 
-/// A take that was begun.
-pub type TakeOp<T> = Op<T, Line<T>, Operation<T>, TakeAt<T>>;
-
-/// The next step of a take, with what it has read and holds.
-#[derive(Drop)]
-pub enum TakeAt<T> {
-    /// Load `TOP`.
-    Load,
-    /// Load the link of the top node.
-    Link(Tagged),
-    /// Compare-and-swap `TOP` for the node below it.
-    Exchange(Tagged, u32),
-    /// Give the node back.
-    GiveBack(Taken<T>, Give),
+/// A take's steps on its fast path, as long as no other pass is faster.
+#[inline(always)]
+pub(crate) fn take_fast<T>(
+    on: &Stack<T>,
+    by: running::Pass<T, Line<T>>,
+    take: &Operation<T>,
+) -> (
+    running::Pass<T, Line<T>>,
+    Next<TakeAt<T>, Answered<Answer<T>>>,
+)
+    requires named { take.now ≡ TakeFirst }
+    requires pass { IsSeatOf on.now by }
+    ensures ran { TakeRan on.now take.now by result.0 result.1 }
+    ensures took { (pass_now result.0).steps ≤ (pass_now by).steps + 6 }
+{
+    let (pass, at) = fast_step!(take_fast_top(on, by, take));
+    take_fast_back(on, pass, at, take)
 }
 
-/// A value that was taken, with its number, and its node, which is to be given back.
-#[derive(Drop)]
-pub struct Taken<T> {
-    pub(crate) value: T,
-    pub(crate) number: u64,
-    pub(crate) index: u32,
+// First the steps that take the top node.
+#[inline]
+fn take_fast_top<T>(
+    on: &Stack<T>,
+    by: running::Pass<T, Line<T>>,
+    take: &Operation<T>,
+) -> (
+    running::Pass<T, Line<T>>,
+    Next<TakeAt<T>, Answered<Answer<T>>>,
+)
+    requires named { take.now ≡ TakeFirst }
+    requires pass { IsSeatOf on.now by }
+    ensures ran { TakeRan on.now take.now by result.0 result.1 }
+    ensures took { (pass_now result.0).steps ≤ (pass_now by).steps + 3 }
+{
+    let table = &on.table.shared;
+    let (pass, top) = fast_step!(
+        first_step(table, on, by, TakeAt::Load, take),
+        TakeAt::Link(top) => top
+    );
+    let (pass, top, below) = fast_step!(
+        any(table, on, pass, TakeAt::Link(top), take),
+        TakeAt::Exchange(top, below) => top, below
+    );
+    any(table, on, pass, TakeAt::Exchange(top, below), take)
 }
 
-/// What a take answers.
-pub(crate) type Answer<T> = Result<(T, u64), TakeRefused>;
+// Then the steps that give it back.
+#[inline]
+fn take_fast_back<T>(
+    on: &Stack<T>,
+    by: running::Pass<T, Line<T>>,
+    won: TakeAt<T>,
+    take: &Operation<T>,
+) -> (
+    running::Pass<T, Line<T>>,
+    Next<TakeAt<T>, Answered<Answer<T>>>,
+)
+    requires named { take.now ≡ TakeFirst }
+    requires stands { TakeStands on.now by won }
+    ensures ran { TakeRan on.now take.now by result.0 result.1 }
+    ensures took { (pass_now result.0).steps ≤ (pass_now by).steps + 3 }
+{
+    let TakeAt::GiveBack(taken, Give::Load) = won else {
+        return (by, Next::On(won));
+    };
+    let table = &on.table.shared;
+    let (pass, taken, at) = fast_step!(
+        any(table, on, by, TakeAt::GiveBack(taken, Give::Load), take),
+        TakeAt::GiveBack(taken, at) => taken, at
+    );
+    let (pass, taken, at) = fast_step!(
+        any(table, on, pass, TakeAt::GiveBack(taken, at), take),
+        TakeAt::GiveBack(taken, at) => taken, at
+    );
+    any(table, on, pass, TakeAt::GiveBack(taken, at), take)
+}
 
 impl<T> Stack<T> {
     /// Begins a take, and makes no step yet. If the operation is dropped, its pass goes with it, and
@@ -117,85 +176,4 @@ impl<T> Stack<T> {
             under_way => leave(self, under_way, take),
         }
     }
-}
-
-impl<T> Code<Stack<T>, T, Line<T>, Operation<T>, Stacked, Answered<Answer<T>>, 2> for TakeAt<T> {
-    ghost use Rattle.treiber_stack.specs.Taking.{take_account};
-
-    ghost account = { take_account };
-
-    #[inline]
-    fn is_refusal(answer: &Answered<Answer<T>>) -> bool {
-        answer.reply.is_err()
-    }
-
-    #[inline(always)]
-    fn access(&self, on: &Stack<T>) -> Access {
-        match self {
-            TakeAt::Load => Access::LoadTop(STACK_LIST),
-            TakeAt::Link(top) => Access::LoadLink(STACK_LIST, top.index()),
-            TakeAt::Exchange(top, below) => Access::Take(STACK_LIST, *top, *below),
-            TakeAt::GiveBack(taken, at) => give_access(on, Chain::of(taken.index), at),
-        }
-    }
-
-    #[inline(always)]
-    fn next(
-        self,
-        on: &Stack<T>,
-        seat: &mut Seat<Option<T>, View<T, Line<T>>>,
-        outcome: Outcome,
-    ) -> Next<TakeAt<T>, Answered<Answer<T>>> {
-        match self {
-            TakeAt::Load => {
-                let top = Tagged::from_word(outcome.word);
-                match bars_take(on, top) {
-                    Some(why) => Next::Done(Answered {
-                        kept: (),
-                        reply: Err(why),
-                    }),
-                    None => Next::On(TakeAt::Link(top)),
-                }
-            }
-            TakeAt::Link(top) => Next::On(TakeAt::Exchange(top, outcome.word as u32)),
-            TakeAt::Exchange(top, _) => {
-                if !outcome.won {
-                    return Next::Lost(TakeAt::Load);
-                }
-                // The take has its effect here; the value moves out with the node's slot.
-                let index = top.index();
-                let value = move_out(&on.table.shared, seat, index);
-                let number = top.tag();
-                let taken = Taken {
-                    value,
-                    number,
-                    index,
-                };
-                Next::On(TakeAt::GiveBack(taken, Give::Load))
-            }
-            TakeAt::GiveBack(taken, at) => match give_next(on, at, outcome) {
-                Next::On(at) => Next::On(TakeAt::GiveBack(taken, at)),
-                Next::Lost(at) => Next::Lost(TakeAt::GiveBack(taken, at)),
-                Next::Done(()) => Next::Done(Answered {
-                    kept: (),
-                    reply: Ok((taken.value, taken.number)),
-                }),
-            },
-        }
-    }
-}
-
-// The answer is the value with its number, or why the take took none: `Shut`, else `Closed` or
-// `Empty` if there is no value, else `Spent`.
-impl<T> Replies<Stack<T>, T, Line<T>, Operation<T>, Stacked, (), Answer<T>, 2> for TakeAt<T> {
-    ghost use Rattle.std.specs.Prelude.{refl};
-    ghost use Rattle.treiber_stack.specs.KeepsAnswers.{take_given, take_promises};
-
-    ghost gives = { take_promises };
-
-    ghost idle = { λ key o answer. refl };
-
-    ghost given = { take_given };
-
-    ghost kept = { λ key o answer. tt };
 }

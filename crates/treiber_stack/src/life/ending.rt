@@ -2,8 +2,8 @@
 ghost use Rattle.bounded_model.specs.Laws.{Leaves};
 ghost use Rattle.running.specs.Ends.{IsRun, IsRunAfter};
 ghost use Rattle.running.specs.Kept.{acts_of_root};
-ghost use Rattle.treiber_stack.specs.Left.{left_in};
-ghost use Rattle.treiber_stack.specs.Stack.{shape_of, machine_of, root_in, IsRootOf};
+ghost use Rattle.treiber_stack.specs.code.Left.{left_in};
+ghost use Rattle.treiber_stack.specs.Calls.{shape_of, machine_of, root_in, IsRootOf};
 
 use crate::life::rest::Rest;
 use crate::life::stack::{Root, Stack};

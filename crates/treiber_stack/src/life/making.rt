@@ -3,8 +3,8 @@ ghost use Rattle.std.specs.Prelude.{◌≡◌, ℕ, ◌<◌, ◌≤◌, length, 
 ghost use Rattle.tagged_index.specs.declared.word.TheConstants.{NULL};
 ghost use Rattle.bounded_model.specs.Laws.{fresh};
 ghost use Rattle.stack_table.specs.Layout.{words_for, start_at};
-ghost use Rattle.treiber_stack.specs.Limits.{shape_at};
-ghost use Rattle.treiber_stack.specs.Stack.{IsRootOf, root_in, shape_of};
+ghost use Rattle.treiber_stack.specs.code.Machine.{shape_at};
+ghost use Rattle.treiber_stack.specs.Calls.{IsRootOf, root_in, shape_of};
 
 use crate::life::stack::{Root, Stack};
 use atomic_table::Table;

@@ -4,7 +4,7 @@ ghost use Rattle.bounded_model.specs.Laws.{Heeds, IsFullOfPasses, Joins, MeetGiv
 ghost use Rattle.machine.specs.Seats.{Extends};
 ghost use Rattle.running.specs.Kept.{acts_in, acts_of_root};
 ghost use Rattle.running.specs.Passes.{acts_of_note, told_in};
-ghost use Rattle.treiber_stack.specs.Stack.{IsNoteOf, IsPassOf, IsRootOf, pass_in, root_in, shape_of};
+ghost use Rattle.treiber_stack.specs.Calls.{IsNoteOf, IsPassOf, IsRootOf, pass_in, root_in, shape_of};
 
 use crate::life::stack::{Note, Pass, Root, Stack};
 use crate::rule::Stacked;

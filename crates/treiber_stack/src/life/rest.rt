@@ -32,7 +32,7 @@ fn index_at<T>(closed: &Closed<Option<T>, Global>, at: usize) -> u32
 
 impl<T> Rest<T> {
     ghost use Rattle.stack_table.specs.Layout.{top_at};
-    ghost use Rattle.treiber_stack.specs.Left.{left_in, left_along};
+    ghost use Rattle.treiber_stack.specs.code.Left.{left_in, left_along};
 
     // The values in the list under `TOP`.
     pub(crate) fn of(closed: Closed<Option<T>, Global>) -> Rest<T>
@@ -48,7 +48,7 @@ impl<T> Rest<T> {
 }
 
 impl<T> Leaving<T> for Rest<T> {
-    ghost use Rattle.treiber_stack.specs.Left.{left_in};
+    ghost use Rattle.treiber_stack.specs.code.Left.{left_in};
 
     ghost left = { left_in };
 

@@ -62,7 +62,7 @@ impl<T> HasTable<T, Line<T>, Operation<T>, Stacked> for Stack<T> {
 }
 
 impl<T> Keeping<Line<T>, ()> for Stack<T> {
-    ghost use Rattle.treiber_stack.specs.Stack.{keeps};
+    ghost use Rattle.treiber_stack.specs.Calls.{keeps};
 
     ghost keeps = { keeps };
 }

@@ -1,6 +1,5 @@
-use Rattle.ring_queue.specs.Leaving.{left_in}
-use Rattle.ring_queue.specs.Ring.{laps_of, passes_of, room_of}
-use Rattle.ring_queue.specs.Roots.{root_in}
+use Rattle.ring_queue.specs.code.Leaving.{left_in}
+use Rattle.ring_queue.specs.Calls.{laps_of, passes_of, room_of, root_in}
 use Rattle.running.specs.Kept.{acts_of_root}
 use Rattle.example_order.proofs.Concluding.{some_slot}
 use Rattle.example_order.proofs.calls.end.Goals as goal

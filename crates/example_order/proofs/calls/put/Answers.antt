@@ -1,5 +1,5 @@
 use Rattle.example_order.proofs.Concluding.{full_says}
-use Rattle.ring_queue.specs.Ring.{pass_in}
+use Rattle.ring_queue.specs.Calls.{pass_in}
 use Rattle.example_order.proofs.calls.put.Goals as goal
 
 pub returns-clause-full : goal.returns-clause-full

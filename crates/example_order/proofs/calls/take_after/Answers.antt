@@ -3,8 +3,7 @@ use Rattle.bounded_model.specs.declared.views.PassView.{PassView}
 use Rattle.bounded_model.specs.Histories.{Later}
 use Rattle.bounded_model.specs.Laws.{Meets, MeetGives}
 use Rattle.bounded_model.proofs.Histories.{Later-trans}
-use Rattle.ring_queue.specs.Ring.{pass_in, shape_of}
-use Rattle.ring_queue.specs.Roots.{root_in}
+use Rattle.ring_queue.specs.Calls.{pass_in, shape_of, root_in}
 use Rattle.example_order.proofs.Concluding.{took_after}
 use Rattle.example_order.proofs.calls.take_after.Goals as goal
 

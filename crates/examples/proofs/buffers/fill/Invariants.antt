@@ -1,4 +1,4 @@
-use Rattle.treiber_stack.specs.Stack.{IsPassOf}
+use Rattle.treiber_stack.specs.Calls.{IsPassOf}
 use Rattle.examples.proofs.buffers.fill.Given as goal
 
 abbrev pub invariant-loop : goal.invariant-loop

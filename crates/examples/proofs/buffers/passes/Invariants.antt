@@ -1,5 +1,5 @@
 use Rattle.std.proofs.Common.{All}
-use Rattle.treiber_stack.specs.Stack.{IsPassOf, IsRootOf}
+use Rattle.treiber_stack.specs.Calls.{IsPassOf, IsRootOf}
 use Rattle.examples.proofs.buffers.passes.Given as goal
 
 abbrev pub invariant-loop : goal.invariant-loop

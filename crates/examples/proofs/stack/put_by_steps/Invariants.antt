@@ -1,4 +1,4 @@
-use Rattle.treiber_stack.specs.Putting.{IsPutting}
+use Rattle.treiber_stack.specs.Calls.{IsPutting}
 use Rattle.examples.proofs.stack.put_by_steps.Given as goal
 
 abbrev pub invariant-loop-count : goal.invariant-loop-count

@@ -1,5 +1,5 @@
 use Rattle.queue_machine.specs.declared.lines.Seeking.TheVariants.{ToLink, ToRefuse}
-use Rattle.ms_queue.specs.Putting.{linking, refused}
+use Rattle.ms_queue.specs.code.Putting.{linking, refused}
 use Rattle.ms_queue.proofs.naming.put_name.Goals as goal
 
 pub returns-in-Refusing : goal.returns-in-Refusing

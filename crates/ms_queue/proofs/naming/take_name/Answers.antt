@@ -1,4 +1,4 @@
-use Rattle.ms_queue.specs.Taking.{took}
+use Rattle.ms_queue.specs.code.Taking.{took}
 use Rattle.ms_queue.proofs.naming.take_name.Goals as goal
 
 pub returns-in-GiveBack : goal.returns-in-GiveBack

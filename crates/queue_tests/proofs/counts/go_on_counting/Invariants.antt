@@ -1,4 +1,4 @@
-use Rattle.ms_queue.specs.Counting.{IsCounting}
+use Rattle.ms_queue.specs.Calls.{IsCounting}
 use Rattle.queue_tests.proofs.counts.go_on_counting.Given as goal
 
 abbrev pub invariant-loop : goal.invariant-loop

@@ -1,4 +1,4 @@
-use Rattle.ms_queue.specs.Taking.{IsTaking}
+use Rattle.ms_queue.specs.Calls.{IsTaking}
 use Rattle.queue_tests.proofs.counts.go_on_taking.Given as goal
 
 abbrev pub invariant-loop : goal.invariant-loop

@@ -1,4 +1,4 @@
-use Rattle.ms_queue.specs.Queue.{IsPassOf}
+use Rattle.ms_queue.specs.Calls.{IsPassOf}
 use Rattle.queue_tests.proofs.counts.greatest.Given as goal
 
 abbrev pub invariant-loop : goal.invariant-loop

@@ -1,4 +1,4 @@
-use Rattle.ms_queue.specs.Gauging.{IsGauging}
+use Rattle.ms_queue.specs.Calls.{IsGauging}
 use Rattle.queue_tests.proofs.gauging.go_on.Given as goal
 
 abbrev pub invariant-loop : goal.invariant-loop

@@ -1,7 +1,7 @@
 use Rattle.std.proofs.Common.{refl}
 use Rattle.ring_machine.specs.declared.lines.Back.TheVariants.{ToClose}
 use Rattle.ring_machine.specs.declared.lines.Front.TheVariants.{ToShut}
-use Rattle.ring_queue.specs.Walking.{to_back, to_front}
+use Rattle.ring_queue.specs.code.Walking.{to_back, to_front}
 use Rattle.ring_queue.proofs.naming.mark_name.Goals as goal
 
 pub returns-in-Closed : goal.returns-in-Closed

@@ -1,6 +1,6 @@
 use Rattle.std.proofs.Common.{refl}
 use Rattle.ring_machine.specs.declared.lines.Back.TheVariants.{ToPut}
-use Rattle.ring_queue.specs.Walking.{to_back}
+use Rattle.ring_queue.specs.code.Walking.{to_back}
 use Rattle.ring_queue.proofs.naming.put_name.Goals as goal
 
 pub returns-in-Walking : goal.returns-in-Walking

@@ -1,5 +1,5 @@
 use Rattle.bounded_model.specs.declared.commands.Command.{Command}
-use Rattle.ring_queue.specs.Stepwise.{IsMakingCall}
+use Rattle.ring_queue.specs.Calls.{IsMakingCall}
 use Rattle.ring_tests.proofs.calls.call_for.Given as goal
 
 abbrev pub invariant-loop : goal.invariant-loop

@@ -1,6 +1,6 @@
 use Rattle.std.specs.Prelude.{ℕ}
 use Rattle.bounded_model.specs.declared.commands.Command.{Command}
-use Rattle.ring_queue.specs.Stepwise.{IsMakingCall}
+use Rattle.ring_queue.specs.Calls.{IsMakingCall}
 use Rattle.ring_tests.proofs.calls.call_to_the_end.Given as goal
 
 abbrev pub invariant-loop : goal.invariant-loop

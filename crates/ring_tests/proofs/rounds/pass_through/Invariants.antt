@@ -1,4 +1,4 @@
-use Rattle.ring_queue.specs.Ring.{IsPassOf}
+use Rattle.ring_queue.specs.Calls.{IsPassOf}
 use Rattle.ring_tests.proofs.rounds.pass_through.Given as goal
 
 abbrev pub invariant-loop-value : goal.invariant-loop-value

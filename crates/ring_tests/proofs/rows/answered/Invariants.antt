@@ -1,4 +1,4 @@
-use Rattle.ring_queue.specs.Ring.{IsPassOf}
+use Rattle.ring_queue.specs.Calls.{IsPassOf}
 use Rattle.ring_tests.proofs.rows.answered.Given as goal
 
 abbrev pub invariant-loop-asked : goal.invariant-loop-asked

@@ -5,7 +5,7 @@ use Rattle.tagged_index.specs.Limits.{capacity_of, tag_limit_of}
 use Rattle.tagged_index.specs.declared.limit.Limits.{Limits}
 use Rattle.queue_machine.specs.Answers.{shape}
 use Rattle.player.proofs.Tracing.{adds_as}
-use Rattle.ms_queue.specs.Naming.{IsStep}
+use Rattle.ms_queue.specs.code.Naming.{IsStep}
 use Rattle.ms_queue.proofs.Crossing.{op_send, rest_send}
 use Rattle.script_replay.specs.Readings.{queue_reading}
 use Rattle.running.proofs.Crossing.{note_send, pass_send, root_send}

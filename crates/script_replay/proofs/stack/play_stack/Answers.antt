@@ -1,8 +1,8 @@
 use denote.Param.Send.{sendable, param_send}
 use Rattle.std.proofs.Common.{ap, refl, string_bytes}
 use Rattle.player.proofs.Tracing.{adds_as}
-use Rattle.treiber_stack.specs.Limits.{shape_at}
-use Rattle.treiber_stack.specs.Naming.{IsStep}
+use Rattle.treiber_stack.specs.code.Machine.{shape_at}
+use Rattle.treiber_stack.specs.code.Naming.{IsStep}
 use Rattle.treiber_stack.proofs.Crossing.{op_send, rest_send}
 use Rattle.script_replay.specs.Readings.{stack_reading}
 use Rattle.running.proofs.Crossing.{note_send, pass_send, root_send}

@@ -1,4 +1,4 @@
-use Rattle.treiber_stack.specs.Stack.{IsPassOf}
+use Rattle.treiber_stack.specs.Calls.{IsPassOf}
 use Rattle.stack_tests.proofs.crowd.fold_each.Given as goal
 
 abbrev pub invariant-loop : goal.invariant-loop

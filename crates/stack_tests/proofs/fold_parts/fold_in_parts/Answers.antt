@@ -1,5 +1,5 @@
 use Rattle.std.proofs.Common.{◌∷◌, [], ◌++◌, sym, subst}
-use Rattle.treiber_stack.specs.FoldOp.{IsFolding}
+use Rattle.treiber_stack.specs.Bulk.{IsFolding}
 use Rattle.stack_tests.proofs.fold_parts.fold_in_parts.Goals as goal
 use Rattle.stack_tests.proofs.fold_parts.fold_in_parts.Goals.{in-Again, in-Value}
 

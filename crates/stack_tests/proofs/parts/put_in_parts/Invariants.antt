@@ -1,5 +1,5 @@
 use Rattle.std.proofs.Common.{List}
-use Rattle.treiber_stack.specs.RangeTrying.{IsRanging}
+use Rattle.treiber_stack.specs.Bulk.{IsRanging}
 use Rattle.stack_tests.proofs.parts.put_in_parts.Given as goal
 
 abbrev pub invariant-loop-before : goal.invariant-loop-before

@@ -1,5 +1,5 @@
 use Rattle.std.proofs.Common.{refl}
-use Rattle.treiber_stack.specs.Putting.{refusing}
+use Rattle.treiber_stack.specs.code.Putting.{refusing}
 use Rattle.treiber_stack.proofs.naming.put_name.Goals as goal
 
 pub returns-in-GiveBack : goal.returns-in-GiveBack

@@ -1,5 +1,5 @@
 use Rattle.std.proofs.Common.{refl}
-use Rattle.treiber_stack.specs.Taking.{giving}
+use Rattle.treiber_stack.specs.code.Taking.{giving}
 use Rattle.treiber_stack.proofs.naming.take_name.Goals as goal
 
 pub returns-in-GiveBack : goal.returns-in-GiveBack

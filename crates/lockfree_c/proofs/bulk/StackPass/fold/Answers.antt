@@ -4,8 +4,8 @@ use Rattle.index_list.specs.declared.front.Front.{Front}
 use Rattle.running.specs.Ops.{underway_of}
 use Rattle.running.specs.Kept.{pass_in}
 use Rattle.running.specs.Passes.{pass_in as pass_now}
-use Rattle.treiber_stack.specs.FoldOp.{IsFolding}
-use Rattle.treiber_stack.specs.Stack.{begun_of, machine_of}
+use Rattle.treiber_stack.specs.Bulk.{IsFolding}
+use Rattle.treiber_stack.specs.Calls.{begun_of, machine_of}
 use Rattle.lockfree_c.specs.Bulk.{front_from}
 use Rattle.lockfree_c.specs.Stacks.{FoldTried, Folded, WorkedAtMost, bulk_steps, stack_reading}
 use Rattle.lockfree_c.proofs.Shared.{began}

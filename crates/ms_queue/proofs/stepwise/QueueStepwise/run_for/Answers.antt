@@ -1,8 +1,8 @@
 use Rattle.bounded_model.specs.Calls.{CallGives}
 use Rattle.running.proofs.Back.{stepped_for}
-use Rattle.ms_queue.specs.Calls.{is_call}
-use Rattle.ms_queue.specs.Every.{every_account}
-use Rattle.ms_queue.specs.Queue.{keeps, machine_of, shape_of}
+use Rattle.ms_queue.specs.code.Machine.{is_call}
+use Rattle.ms_queue.specs.code.Every.{every_account}
+use Rattle.ms_queue.specs.Calls.{keeps, machine_of, shape_of}
 use Rattle.ms_queue.proofs.stepwise.QueueStepwise.run_for.Goals as goal
 
 pub returns-clause-ran : goal.returns-clause-ran

@@ -2,7 +2,7 @@ use Rattle.std.proofs.Common.{ℕ, ◌+◌, ◌-◌, ◌<◌, ◌≤◌}
 use Rattle.std.specs.Mem.Slots.{slots_items}
 use Rattle.tagged_index.specs.declared.word.TheConstants.{MAX_TAG}
 use Rattle.ring_machine.specs.Machine.{stride}
-use Rattle.ring_queue.specs.Left.{HasTaken}
+use Rattle.ring_queue.specs.code.Left.{HasTaken}
 use Rattle.ring_queue.proofs.Front.{IsNear}
 use Rattle.ring_queue.proofs.life.rest.front_of.Given as goal
 

@@ -1,8 +1,8 @@
 use Rattle.bounded_model.specs.Calls.{CallGives}
 use Rattle.running.proofs.Back.{stepped}
-use Rattle.ring_queue.specs.Calls.{is_call}
-use Rattle.ring_queue.specs.Every.{every_account}
-use Rattle.ring_queue.specs.Ring.{keeps, machine_of, shape_of}
+use Rattle.ring_queue.specs.code.Machine.{is_call}
+use Rattle.ring_queue.specs.code.Every.{every_account}
+use Rattle.ring_queue.specs.Calls.{keeps, machine_of, shape_of}
 use Rattle.ring_queue.proofs.stepwise.RingQueueStepwise.step.Goals as goal
 
 pub returns : goal.returns

@@ -1,4 +1,4 @@
-use Rattle.ms_queue.specs.Queue.{machine_of}
+use Rattle.ms_queue.specs.Calls.{machine_of}
 use Rattle.runs.proofs.queue.Progress.{overtaken_seen}
 use Rattle.runs.proofs.Made.{going}
 use Rattle.runs.proofs.progress.queue.call_is_overtaken.Goals as goal

@@ -1,5 +1,5 @@
 use Rattle.std.proofs.Common.{arith}
-use Rattle.ms_queue.specs.Queue.{room_of, limit_of}
+use Rattle.ms_queue.specs.Calls.{room_of, limit_of}
 use Rattle.runs.proofs.queue.Queues.{linearizable}
 use Rattle.runs.proofs.queue.Total.{total_work}
 use Rattle.runs.proofs.progress.queue.end.Goals as goal

@@ -1,7 +1,7 @@
 use Rattle.std.proofs.Common.{◌+◌, ap}
-use Rattle.ms_queue.specs.Putting.{put_account}
-use Rattle.ms_queue.specs.Queue.{machine_of}
-use Rattle.ms_queue.specs.KeepsAnswers.{put_promises}
+use Rattle.ms_queue.specs.code.Putting.{put_account}
+use Rattle.ms_queue.specs.Calls.{machine_of}
+use Rattle.ms_queue.specs.code.KeepsAnswers.{put_promises}
 use Rattle.runs.proofs.Made.{going, some_made}
 use Rattle.runs.proofs.queue.ProgressCalls.{ends_or_overtaken, put_tried}
 use Rattle.runs.proofs.progress.queue.put_or_overtaken.Goals as goal

@@ -1,4 +1,4 @@
-use Rattle.ring_queue.specs.Ring.{machine_of}
+use Rattle.ring_queue.specs.Calls.{machine_of}
 use Rattle.runs.proofs.ring.Progress.{overtaken_seen}
 use Rattle.runs.proofs.Made.{going}
 use Rattle.runs.proofs.progress.ring.call_is_overtaken.Goals as goal

@@ -1,5 +1,5 @@
 use Rattle.std.proofs.Common.{arith}
-use Rattle.ring_queue.specs.Ring.{room_of, laps_of, passes_of}
+use Rattle.ring_queue.specs.Calls.{room_of, laps_of, passes_of}
 use Rattle.runs.proofs.ring.Rings.{linearizable}
 use Rattle.runs.proofs.ring.Total.{total_work}
 use Rattle.runs.proofs.progress.ring.end.Goals as goal

@@ -1,7 +1,7 @@
 use Rattle.std.proofs.Common.{◌+◌, ap}
-use Rattle.ring_queue.specs.Putting.{put_account}
-use Rattle.ring_queue.specs.KeepsAnswers.{put_promises}
-use Rattle.ring_queue.specs.Ring.{machine_of}
+use Rattle.ring_queue.specs.code.Putting.{put_account}
+use Rattle.ring_queue.specs.code.KeepsAnswers.{put_promises}
+use Rattle.ring_queue.specs.Calls.{machine_of}
 use Rattle.runs.proofs.Made.{going, some_made}
 use Rattle.runs.proofs.ring.ProgressCalls.{ends_or_overtaken, put_tried}
 use Rattle.runs.proofs.progress.ring.put_or_overtaken.Goals as goal

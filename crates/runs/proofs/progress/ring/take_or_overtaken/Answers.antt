@@ -1,7 +1,7 @@
 use Rattle.std.proofs.Common.{◌+◌, ap}
-use Rattle.ring_queue.specs.Taking.{take_account}
-use Rattle.ring_queue.specs.KeepsAnswers.{take_promises}
-use Rattle.ring_queue.specs.Ring.{machine_of}
+use Rattle.ring_queue.specs.code.Taking.{take_account}
+use Rattle.ring_queue.specs.code.KeepsAnswers.{take_promises}
+use Rattle.ring_queue.specs.Calls.{machine_of}
 use Rattle.runs.proofs.Made.{going, some_made}
 use Rattle.runs.proofs.ring.ProgressCalls.{ends_or_overtaken, take_tried}
 use Rattle.runs.proofs.progress.ring.take_or_overtaken.Goals as goal

@@ -4,8 +4,8 @@ use Rattle.bounded_model.specs.declared.commands.Command.TheVariants.{Put, Take,
 use Rattle.stack_table.specs.declared.operation.Operation.{Operation}
 use Rattle.stack_table.specs.Lines.{PutsMany, call_of, first_line}
 use Rattle.step_core.specs.stack.Bound.{IsSingle}
-use Rattle.treiber_stack.specs.Calls.{is_call}
-use Rattle.treiber_stack.specs.Stack.{machine_of}
+use Rattle.treiber_stack.specs.code.Machine.{is_call}
+use Rattle.treiber_stack.specs.Calls.{machine_of}
 use Rattle.runs.proofs.stack.Progress.{overtaken_seen}
 use Rattle.runs.proofs.Made.{going}
 use Rattle.runs.proofs.progress.stack.call_is_overtaken.Goals as goal

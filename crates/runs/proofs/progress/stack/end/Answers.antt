@@ -1,5 +1,5 @@
 use Rattle.std.proofs.Common.{arith}
-use Rattle.treiber_stack.specs.Stack.{room_of, limit_of}
+use Rattle.treiber_stack.specs.Calls.{room_of, limit_of}
 use Rattle.runs.proofs.stack.Stacks.{linearizable}
 use Rattle.runs.proofs.stack.Total.{total_work}
 use Rattle.runs.proofs.progress.stack.end.Goals as goal

@@ -2,9 +2,9 @@ use Rattle.std.proofs.Common.{◌+◌, refl, ap, sym, subst}
 use Rattle.stack_table.specs.declared.operation.Operation.{Operation}
 use Rattle.stack_table.specs.Lines.{first_line}
 use Rattle.step_core.specs.stack.Bound.{IsSingle}
-use Rattle.treiber_stack.specs.Putting.{put_account}
-use Rattle.treiber_stack.specs.Stack.{machine_of}
-use Rattle.treiber_stack.specs.KeepsAnswers.{put_promises}
+use Rattle.treiber_stack.specs.code.Putting.{put_account}
+use Rattle.treiber_stack.specs.Calls.{machine_of}
+use Rattle.treiber_stack.specs.code.KeepsAnswers.{put_promises}
 use Rattle.runs.proofs.Made.{going, some_made}
 use Rattle.runs.proofs.stack.ProgressCalls.{ends_or_overtaken, put_tried}
 use Rattle.runs.proofs.progress.stack.put_or_overtaken.Goals as goal

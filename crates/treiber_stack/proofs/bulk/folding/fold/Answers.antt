@@ -9,8 +9,8 @@ use Rattle.stack_table.specs.declared.operation.Operation.TheVariants.{Fold as F
 use Rattle.std.specs.Prelude.{Ok, Err}
 use Rattle.stack_machine.specs.Deeds.{in_order}
 use Rattle.stack_machine.specs.declared.lines.Answer.TheVariants.{Fold as AnswerFold}
-use Rattle.treiber_stack.specs.Ran.{WasRun, WasFolded}
-use Rattle.treiber_stack.specs.Stack.{as_pass, machine_of, shape_of, pass_in}
+use Rattle.treiber_stack.specs.Calls.{WasRun, WasFolded, machine_of, shape_of, pass_in}
+use Rattle.treiber_stack.specs.code.Steps.{as_pass}
 use Rattle.treiber_stack.proofs.Folds.{Folds_more, folds_same, hands_on, all_gone, all_answered, none_answered, all_ran, none_ran, none_taken, gone_few}
 use Rattle.treiber_stack.proofs.bulk.folding.fold.Goals as goal
 

@@ -1,8 +1,8 @@
 use Rattle.std.proofs.Common.{◌≡◌, List, length}
 use Rattle.bounded_model.specs.Consumes.{Folds}
 use Rattle.stack_table.specs.declared.operation.Operation.TheVariants.{Fold as FoldFirst}
-use Rattle.treiber_stack.specs.FoldOp.{IsFolding}
-use Rattle.treiber_stack.specs.Stack.{begun_of, pass_in}
+use Rattle.treiber_stack.specs.Bulk.{IsFolding}
+use Rattle.treiber_stack.specs.Calls.{begun_of, pass_in}
 use Rattle.treiber_stack.proofs.bulk.folding.fold.Given as goal
 
 abbrev pub invariant-loop-done : goal.invariant-loop-done

@@ -4,8 +4,8 @@ use Rattle.machine.specs.Seats.{pass_of}
 use Rattle.machine.specs.declared.seats.View.{View}
 use Rattle.running.specs.Passes.{pass_in}
 use Rattle.running.specs.declared.passes.Pass.{Pass}
-use Rattle.treiber_stack.specs.Ranging.{IsRestoring}
-use Rattle.treiber_stack.specs.Stack.{begun_of}
+use Rattle.treiber_stack.specs.code.Ranging.{IsRestoring}
+use Rattle.treiber_stack.specs.Calls.{begun_of}
 use Rattle.treiber_stack.proofs.Restoring.{restore_start, restore_full, restore_low, value, came_out, restore_last, restore_next, restore_done}
 use Rattle.treiber_stack.proofs.bulk.loading.restore.Goals.{then-place-gt0, else-place-gt0}
 use Rattle.treiber_stack.proofs.bulk.loading.restore.Goals as goal

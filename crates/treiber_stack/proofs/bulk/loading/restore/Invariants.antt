@@ -1,9 +1,9 @@
 use Rattle.std.proofs.Common.{◌≡◌, ℕ, ◌+◌, ◌≤◌, List}
 use Rattle.running.specs.Passes.{pass_in}
 use Rattle.stack_table.specs.declared.operation.Operation.{Operation}
-use Rattle.treiber_stack.specs.Ranging.{IsRefused, IsRestoring}
-use Rattle.treiber_stack.specs.Stack.{begun_of}
-use Rattle.treiber_stack.specs.declared.call_parts.refusing.Barred.{Barred}
+use Rattle.treiber_stack.specs.code.Ranging.{IsRefused, IsRestoring}
+use Rattle.treiber_stack.specs.Calls.{begun_of}
+use Rattle.treiber_stack.specs.declared.code.refusing.Barred.{Barred}
 use Rattle.treiber_stack.proofs.bulk.loading.restore.Given as goal
 
 abbrev pub invariant-loop-moved : goal.invariant-loop-moved

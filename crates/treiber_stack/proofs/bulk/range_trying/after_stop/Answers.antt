@@ -1,6 +1,6 @@
 use Rattle.std.proofs.Common.{ℕ, sym, ◌∙◌, subst, arith}
 use Rattle.std.proofs.lemmas.Bool.{false≢true}
-use Rattle.treiber_stack.specs.RangeTrying.{HasStopped}
+use Rattle.treiber_stack.specs.code.RangeTrying.{HasStopped}
 use Rattle.treiber_stack.proofs.RangeTrying.{has_node, took_not_back, to_node, to_top}
 use Rattle.treiber_stack.proofs.bulk.range_trying.after_stop.Goals as goal
 

@@ -3,9 +3,8 @@ use Rattle.std.specs.Prelude.{Option as Slot, MatchOption}
 use Rattle.running.proofs.Ways.{begun_is}
 use Rattle.stack_table.specs.declared.operation.Operation.{Operation}
 use Rattle.treiber_stack.specs.declared.bulk.range_steps.RangeAt.TheVariants.{LoadFree}
-use Rattle.treiber_stack.specs.Ran.{IsRange}
-use Rattle.treiber_stack.specs.RangeTrying.{IsRangeOf}
-use Rattle.treiber_stack.specs.Stack.{machine_of}
+use Rattle.treiber_stack.specs.Calls.{IsRange, machine_of}
+use Rattle.treiber_stack.specs.code.RangeTrying.{IsRangeOf}
 use Rattle.treiber_stack.proofs.Filling.{fill_start, some_in, wants_node}
 use Rattle.treiber_stack.proofs.bulk.range_trying.begin.Goals as goal
 

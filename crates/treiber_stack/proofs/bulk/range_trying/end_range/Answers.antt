@@ -5,9 +5,9 @@ use Rattle.bounded_model.specs.declared.bulk.RangeRefused.{RangeRefused}
 use Rattle.treiber_stack.specs.declared.bulk.range_steps.RangeEnd.{RangeEnd}
 use Rattle.treiber_stack.specs.declared.bulk.range_steps.RangeEnd.TheVariants as end
 use Rattle.treiber_stack.specs.declared.bulk.range_steps.RangeStop.TheVariants.{Over}
-use Rattle.treiber_stack.specs.Ranging.{PutsOf, places_from}
-use Rattle.treiber_stack.specs.RangeTrying.{HasStopped}
-use Rattle.treiber_stack.specs.Stack.{as_pass}
+use Rattle.treiber_stack.specs.code.Ranging.{PutsOf, places_from}
+use Rattle.treiber_stack.specs.code.RangeTrying.{HasStopped}
+use Rattle.treiber_stack.specs.code.Steps.{as_pass}
 use Rattle.treiber_stack.proofs.RangeGives.{barred_so, full_so, is_refused, put_so, spent_so}
 use Rattle.treiber_stack.proofs.RangeTrying.{is_over, is_back, not_back}
 use Rattle.treiber_stack.proofs.bulk.range_trying.end_range.Goals as goal

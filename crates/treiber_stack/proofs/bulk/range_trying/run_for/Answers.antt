@@ -1,7 +1,7 @@
 use Rattle.std.proofs.Common.{length, refl, sym, ◌∙◌, subst, arith}
 use Rattle.running.specs.Passes.{pass_in}
-use Rattle.treiber_stack.specs.RangeTrying.{MadeAtMost}
-use Rattle.treiber_stack.specs.Stack.{begun_of}
+use Rattle.treiber_stack.specs.code.RangeTrying.{MadeAtMost}
+use Rattle.treiber_stack.specs.Calls.{begun_of}
 use Rattle.treiber_stack.proofs.RangeTook.{comes, goes, ends, most}
 use Rattle.treiber_stack.proofs.bulk.range_trying.run_for.Goals as goal
 

@@ -1,6 +1,6 @@
 use Rattle.std.proofs.Common.{◌≡◌, List}
-use Rattle.treiber_stack.specs.RangeTrying.{IsRangeOp, left_at}
-use Rattle.treiber_stack.specs.Stack.{begun_of}
+use Rattle.treiber_stack.specs.code.RangeTrying.{IsRangeOp, left_at}
+use Rattle.treiber_stack.specs.Calls.{begun_of}
 use Rattle.treiber_stack.proofs.RangeTook.{Come}
 use Rattle.treiber_stack.proofs.bulk.range_trying.run_for.Given as goal
 

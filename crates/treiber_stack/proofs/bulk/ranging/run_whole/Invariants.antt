@@ -1,6 +1,6 @@
 use Rattle.std.proofs.Common.{◌≡◌, List}
-use Rattle.treiber_stack.specs.RangeTrying.{IsRangeOp, left_at}
-use Rattle.treiber_stack.specs.Stack.{begun_of}
+use Rattle.treiber_stack.specs.code.RangeTrying.{IsRangeOp, left_at}
+use Rattle.treiber_stack.specs.Calls.{begun_of}
 use Rattle.treiber_stack.proofs.bulk.ranging.run_whole.Given as goal
 
 abbrev pub invariant-loop : goal.invariant-loop

@@ -4,7 +4,7 @@ use Rattle.running.proofs.Since.{step_new}
 use Rattle.stack_machine.specs.declared.lines.Answer.TheVariants.{Look as Answer}
 use Rattle.stack_machine.specs.Machine.{ends}
 use Rattle.stack_table.specs.declared.operation.Operation.{Operation}
-use Rattle.treiber_stack.specs.Stack.{begun_of, machine_of}
+use Rattle.treiber_stack.specs.Calls.{begun_of, machine_of}
 use Rattle.treiber_stack.proofs.calls.looking.look_fast.Goals as goal
 
 pub returns-clause-ran : goal.returns-clause-ran

@@ -7,7 +7,8 @@ use Rattle.stack_table.specs.declared.operation.Operation.{Operation}
 use Rattle.stack_table.specs.declared.operation.Operation.TheVariants.{Look as First}
 use Rattle.running.proofs.Ways.{started, ends_so}
 use Rattle.running.specs.Going.{Ended}
-use Rattle.treiber_stack.specs.Stack.{IsAt, begun_of, machine_of}
+use Rattle.treiber_stack.specs.code.Steps.{IsAt}
+use Rattle.treiber_stack.specs.Calls.{begun_of, machine_of}
 use Rattle.treiber_stack.proofs.Gives.{ready_step}
 use Rattle.treiber_stack.proofs.calls.looking.look_once.Goals as goal
 

@@ -1,5 +1,5 @@
 use Rattle.std.proofs.Common.{ap}
-use Rattle.treiber_stack.specs.Calls.{put_of}
+use Rattle.treiber_stack.specs.code.Machine.{put_of}
 use Rattle.treiber_stack.proofs.calls.putting.put_operation.Goals as goal
 
 pub returns : goal.returns

@@ -1,8 +1,8 @@
 use Rattle.bounded_model.specs.Calls.{CallGives}
 use Rattle.running.proofs.Back.{stepped}
-use Rattle.treiber_stack.specs.Calls.{is_call}
-use Rattle.treiber_stack.specs.Every.{every_account}
-use Rattle.treiber_stack.specs.Stack.{keeps, machine_of, shape_of}
+use Rattle.treiber_stack.specs.code.Machine.{is_call}
+use Rattle.treiber_stack.specs.code.Every.{every_account}
+use Rattle.treiber_stack.specs.Calls.{keeps, machine_of, shape_of}
 use Rattle.treiber_stack.proofs.stepwise.StackStepwise.step.Goals as goal
 
 pub returns : goal.returns

@@ -4,7 +4,7 @@ use Rattle.running.specs.Passes.{pass_in as pass_now}
 use Rattle.running.specs.declared.passes.Pass.{Pass}
 use Rattle.queue_machine.specs.declared.lines.Line.{Line}
 use Rattle.queue_table.specs.Lines.{names}
-use Rattle.ms_queue.specs.Queue.{pass_in}
+use Rattle.ms_queue.specs.Calls.{pass_in}
 use Rattle.lockfree_c.proofs.calls.queue.QueueU64AtOnce.put_at_once.Goals as goal
 
 pub returns-in-Again-clause-tried : goal.returns-in-Again-clause-tried

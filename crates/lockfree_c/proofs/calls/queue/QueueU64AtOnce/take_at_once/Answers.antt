@@ -2,7 +2,7 @@ use Rattle.std.proofs.Common.{◌≤◌, ◌+◌, ℕ, sym, subst}
 use Rattle.running.specs.Passes.{pass_in as pass_now}
 use Rattle.running.specs.declared.passes.Pass.{Pass}
 use Rattle.queue_machine.specs.declared.lines.Line.{Line}
-use Rattle.ms_queue.specs.Queue.{pass_in}
+use Rattle.ms_queue.specs.Calls.{pass_in}
 use Rattle.lockfree_c.proofs.calls.queue.QueueU64AtOnce.take_at_once.Goals as goal
 
 pub returns-in-Again-clause-most : goal.returns-in-Again-clause-most

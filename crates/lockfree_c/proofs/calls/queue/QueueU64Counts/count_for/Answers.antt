@@ -1,6 +1,6 @@
 use Rattle.std.proofs.Common.{subst, arith}
 use Rattle.running.specs.Passes.{pass_in as pass_now}
-use Rattle.ms_queue.specs.Queue.{pass_in}
+use Rattle.ms_queue.specs.Calls.{pass_in}
 use Rattle.lockfree_c.specs.Queues.{CountTried, count_steps, working}
 use Rattle.lockfree_c.proofs.Shared.{worked_after}
 use Rattle.lockfree_c.proofs.calls.queue.QueueU64Counts.count_for.Goals as goal

@@ -1,8 +1,8 @@
 use Rattle.std.proofs.Common.{subst}
 use Rattle.bounded_model.specs.Calls.{CallGives}
-use Rattle.ms_queue.specs.Calls.{is_call}
-use Rattle.ms_queue.specs.Every.{every_account}
-use Rattle.ms_queue.specs.Queue.{keeps, machine_of, shape_of}
+use Rattle.ms_queue.specs.code.Machine.{is_call}
+use Rattle.ms_queue.specs.code.Every.{every_account}
+use Rattle.ms_queue.specs.Calls.{keeps, machine_of, shape_of}
 use Rattle.lockfree_c.specs.Calls.{TookFor}
 use Rattle.lockfree_c.specs.Queues.{queue_reading}
 use Rattle.lockfree_c.proofs.Runs.{took_for, tried_for}

@@ -2,7 +2,7 @@ use Rattle.std.proofs.Common.{◌≤◌, ◌+◌, ℕ, sym, subst}
 use Rattle.running.specs.Passes.{pass_in as pass_now}
 use Rattle.running.specs.declared.passes.Pass.{Pass}
 use Rattle.ring_table.specs.declared.line.SeatLine.{SeatLine}
-use Rattle.ring_queue.specs.Ring.{pass_in}
+use Rattle.ring_queue.specs.Calls.{pass_in}
 use Rattle.lockfree_c.proofs.calls.ring.RingQueueU64AtOnce.look_at_once.Goals as goal
 
 pub returns-in-Again-clause-most : goal.returns-in-Again-clause-most

@@ -4,7 +4,7 @@ use Rattle.running.specs.Passes.{pass_in as pass_now}
 use Rattle.running.specs.declared.passes.Pass.{Pass}
 use Rattle.ring_table.specs.declared.line.SeatLine.{SeatLine}
 use Rattle.ring_table.specs.Seats.{names}
-use Rattle.ring_queue.specs.Ring.{pass_in}
+use Rattle.ring_queue.specs.Calls.{pass_in}
 use Rattle.lockfree_c.proofs.calls.ring.RingQueueU64AtOnce.put_at_once.Goals as goal
 
 pub returns-in-Again-clause-tried : goal.returns-in-Again-clause-tried

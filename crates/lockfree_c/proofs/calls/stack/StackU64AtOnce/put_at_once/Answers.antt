@@ -4,7 +4,7 @@ use Rattle.running.specs.Passes.{pass_in as pass_now}
 use Rattle.running.specs.declared.passes.Pass.{Pass}
 use Rattle.stack_machine.specs.declared.lines.Line.{Line}
 use Rattle.stack_table.specs.Lines.{names}
-use Rattle.treiber_stack.specs.Stack.{pass_in}
+use Rattle.treiber_stack.specs.Calls.{pass_in}
 use Rattle.lockfree_c.proofs.calls.stack.StackU64AtOnce.put_at_once.Goals as goal
 
 pub returns-in-Again-clause-tried : goal.returns-in-Again-clause-tried

@@ -2,7 +2,7 @@ use Rattle.std.proofs.Common.{◌≤◌, ◌+◌, ℕ, sym, subst}
 use Rattle.running.specs.Passes.{pass_in as pass_now}
 use Rattle.running.specs.declared.passes.Pass.{Pass}
 use Rattle.stack_machine.specs.declared.lines.Line.{Line}
-use Rattle.treiber_stack.specs.Stack.{pass_in}
+use Rattle.treiber_stack.specs.Calls.{pass_in}
 use Rattle.lockfree_c.proofs.calls.stack.StackU64AtOnce.take_at_once.Goals as goal
 
 pub returns-in-Again-clause-most : goal.returns-in-Again-clause-most

@@ -1,5 +1,5 @@
 use Rattle.std.proofs.Common.{◌≡◌, ◌+◌, arith, refl}
-use Rattle.treiber_stack.specs.Stack.{pass_in}
+use Rattle.treiber_stack.specs.Calls.{pass_in}
 use Rattle.lockfree_c.proofs.calls.stack.StackU64Gauges.gauge_for.Goals as goal
 
 pub returns-clause-gives : goal.returns-clause-gives

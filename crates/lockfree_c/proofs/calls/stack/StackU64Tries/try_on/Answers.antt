@@ -1,8 +1,8 @@
 use Rattle.std.proofs.Common.{subst}
 use Rattle.bounded_model.specs.Calls.{CallGives}
-use Rattle.treiber_stack.specs.Calls.{is_call}
-use Rattle.treiber_stack.specs.Every.{every_account}
-use Rattle.treiber_stack.specs.Stack.{keeps, machine_of, shape_of}
+use Rattle.treiber_stack.specs.code.Machine.{is_call}
+use Rattle.treiber_stack.specs.code.Every.{every_account}
+use Rattle.treiber_stack.specs.Calls.{keeps, machine_of, shape_of}
 use Rattle.lockfree_c.specs.Calls.{TookFor}
 use Rattle.lockfree_c.specs.Stacks.{stack_reading}
 use Rattle.lockfree_c.proofs.Runs.{took_for, tried_for}

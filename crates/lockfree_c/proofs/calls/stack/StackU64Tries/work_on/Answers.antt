@@ -1,5 +1,5 @@
 use Rattle.std.proofs.Common.{subst}
-use Rattle.treiber_stack.specs.Stack.{begun_of}
+use Rattle.treiber_stack.specs.Calls.{begun_of}
 use Rattle.lockfree_c.specs.Stacks.{IsStackWork}
 use Rattle.lockfree_c.proofs.Works.{fold_worked}
 use Rattle.lockfree_c.proofs.calls.stack.StackU64Tries.work_on.Goals as goal

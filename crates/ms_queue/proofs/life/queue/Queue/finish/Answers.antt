@@ -3,8 +3,8 @@ use Rattle.std.specs.Mem.Slots.{slots_items, slots_len, slots_counts}
 use Rattle.bounded_model.specs.Laws.{Leaves}
 use Rattle.running.specs.Passes.{root_in}
 use Rattle.running.proofs.Ends.{runs_all}
-use Rattle.ms_queue.specs.Left.{left_in}
-use Rattle.ms_queue.specs.Queue.{machine_of, shape_of, room_of, limit_of}
+use Rattle.ms_queue.specs.code.Left.{left_in}
+use Rattle.ms_queue.specs.Calls.{machine_of, shape_of, room_of, limit_of}
 use Rattle.ms_queue.proofs.Leftover.{leaves_all}
 use Rattle.ms_queue.proofs.life.queue.Queue.finish.Goals as goal
 

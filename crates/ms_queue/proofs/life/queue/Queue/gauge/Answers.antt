@@ -1,6 +1,6 @@
 use Rattle.std.proofs.Common.{refl}
 use Rattle.running.proofs.Back.{new_call}
-use Rattle.ms_queue.specs.Queue.{machine_of}
+use Rattle.ms_queue.specs.Calls.{machine_of}
 use Rattle.ms_queue.proofs.life.queue.Queue.gauge.Goals as goal
 
 pub returns-clause-of : goal.returns-clause-of

@@ -1,7 +1,7 @@
 use Rattle.std.proofs.Common.{◌≤◌, arith, refl}
 use Rattle.bounded_model.proofs.Hands.{within_capacity}
 use Rattle.bounded_model.proofs.Staying.{legal_before}
-use Rattle.ms_queue.specs.Queue.{machine_of, room_of, shape_of}
+use Rattle.ms_queue.specs.Calls.{machine_of, room_of, shape_of}
 use Rattle.running.proofs.Back.{new_call}
 use Rattle.ms_queue.proofs.life.queue.Queue.len.Goals as goal
 

@@ -1,7 +1,7 @@
 use Rattle.std.proofs.Common.{refl}
 use Rattle.queue_table.specs.declared.operation.Operation.TheVariants.{Look as LookFirst}
 use Rattle.running.proofs.Back.{new_call}
-use Rattle.ms_queue.specs.Queue.{machine_of}
+use Rattle.ms_queue.specs.Calls.{machine_of}
 use Rattle.ms_queue.proofs.life.queue.Queue.look.Goals as goal
 
 pub returns-clause-of : goal.returns-clause-of

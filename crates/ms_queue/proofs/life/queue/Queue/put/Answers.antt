@@ -8,10 +8,10 @@ use Rattle.std.proofs.Common.{ap, refl}
 use Rattle.running.specs.contracts.code.Next as next
 use Rattle.running.specs.contracts.kept.Answered as answered
 use Rattle.running.proofs.Back.{has_returned_now, new_call, new_call_now}
-use Rattle.ms_queue.specs.contracts.calls.putting.PutAt as put_at
-use Rattle.ms_queue.specs.KeepsAnswers.{put_given, put_promises}
-use Rattle.ms_queue.specs.Putting.{put_account}
-use Rattle.ms_queue.specs.Queue.{Pass, keeps, machine_of}
+use Rattle.ms_queue.specs.contracts.code.putting.PutAt as put_at
+use Rattle.ms_queue.specs.code.KeepsAnswers.{put_given, put_promises}
+use Rattle.ms_queue.specs.code.Putting.{put_account}
+use Rattle.ms_queue.specs.Calls.{Pass, keeps, machine_of}
 use Rattle.ms_queue.proofs.life.queue.Queue.put.Goals as goal
 
 pub returns-in_default-Done : goal.returns-in_default-Done

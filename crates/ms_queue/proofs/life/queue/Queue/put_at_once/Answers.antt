@@ -10,11 +10,11 @@ use Rattle.running.specs.contracts.code.Next as next
 use Rattle.running.specs.contracts.kept.Answered as answered
 use Rattle.running.proofs.Back.{has_returned_now, tried}
 use Rattle.bounded_model.specs.Laws.{Answers, PutGives, put_answered}
-use Rattle.ms_queue.specs.contracts.calls.putting.PutAt as put_at
-use Rattle.ms_queue.specs.Calls.{is_call}
-use Rattle.ms_queue.specs.KeepsAnswers.{put_given, put_promises}
-use Rattle.ms_queue.specs.Putting.{put_account}
-use Rattle.ms_queue.specs.Queue.{keeps, machine_of, pass_in, shape_of}
+use Rattle.ms_queue.specs.contracts.code.putting.PutAt as put_at
+use Rattle.ms_queue.specs.code.Machine.{is_call}
+use Rattle.ms_queue.specs.code.KeepsAnswers.{put_given, put_promises}
+use Rattle.ms_queue.specs.code.Putting.{put_account}
+use Rattle.ms_queue.specs.Calls.{keeps, machine_of, pass_in, shape_of}
 use Rattle.ms_queue.proofs.FastPath.{at_most}
 use Rattle.ms_queue.proofs.life.queue.Queue.put_at_once.Goals as goal
 

@@ -1,6 +1,6 @@
 use Rattle.running.proofs.Back.{new_call, runs_from}
-use Rattle.ms_queue.specs.Shutting.{shut_account}
-use Rattle.ms_queue.specs.Queue.{keeps, machine_of}
+use Rattle.ms_queue.specs.code.Shutting.{shut_account}
+use Rattle.ms_queue.specs.Calls.{keeps, machine_of}
 use Rattle.ms_queue.proofs.life.queue.Queue.shut.Goals as goal
 
 pub whole-requires : goal.whole-requires

@@ -10,10 +10,10 @@ use Rattle.running.specs.contracts.code.Next as next
 use Rattle.running.specs.contracts.kept.Answered as answered
 use Rattle.running.proofs.Back.{has_returned_now, new_call, new_call_now}
 use Rattle.queue_table.specs.declared.operation.Operation.TheVariants.{Take as TakeFirst}
-use Rattle.ms_queue.specs.contracts.calls.taking.TakeAt as take_at
-use Rattle.ms_queue.specs.KeepsAnswers.{take_given, take_promises}
-use Rattle.ms_queue.specs.Taking.{take_account}
-use Rattle.ms_queue.specs.Queue.{Pass, keeps, machine_of}
+use Rattle.ms_queue.specs.contracts.code.taking.TakeAt as take_at
+use Rattle.ms_queue.specs.code.KeepsAnswers.{take_given, take_promises}
+use Rattle.ms_queue.specs.code.Taking.{take_account}
+use Rattle.ms_queue.specs.Calls.{Pass, keeps, machine_of}
 use Rattle.ms_queue.proofs.life.queue.Queue.take.Goals as goal
 
 pub returns-in_default-Done : goal.returns-in_default-Done

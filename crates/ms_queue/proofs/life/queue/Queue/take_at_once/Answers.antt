@@ -13,11 +13,11 @@ use Rattle.running.proofs.Back.{has_returned_now, tried}
 use Rattle.queue_table.specs.declared.operation.Operation.TheVariants.{Take as TakeFirst}
 use Rattle.bounded_model.specs.declared.views.Answered.TheVariants.{Take as TakeAnswered}
 use Rattle.bounded_model.specs.Laws.{Answers, TakeGives}
-use Rattle.ms_queue.specs.contracts.calls.taking.TakeAt as take_at
-use Rattle.ms_queue.specs.Calls.{is_call}
-use Rattle.ms_queue.specs.KeepsAnswers.{take_given, take_promises}
-use Rattle.ms_queue.specs.Taking.{take_account}
-use Rattle.ms_queue.specs.Queue.{keeps, machine_of, pass_in, shape_of}
+use Rattle.ms_queue.specs.contracts.code.taking.TakeAt as take_at
+use Rattle.ms_queue.specs.code.Machine.{is_call}
+use Rattle.ms_queue.specs.code.KeepsAnswers.{take_given, take_promises}
+use Rattle.ms_queue.specs.code.Taking.{take_account}
+use Rattle.ms_queue.specs.Calls.{keeps, machine_of, pass_in, shape_of}
 use Rattle.ms_queue.proofs.FastPath.{at_most}
 use Rattle.ms_queue.proofs.life.queue.Queue.take_at_once.Goals as goal
 

@@ -3,7 +3,7 @@ use Rattle.std.specs.Mem.Slots.{slots_items, slots_len, slots_counts}
 use mathlib.Core.Option.{some}
 use lib.ListN.{get_elem?}
 use Rattle.atomic_table.proofs.Lists.{at_index}
-use Rattle.ms_queue.specs.Left.{cell_of}
+use Rattle.ms_queue.specs.code.Left.{cell_of}
 use Rattle.std.specs.Prelude.{slice_index}
 use Rattle.ms_queue.proofs.Leftover.{word_at, left_none, left_empty, left_next}
 use Rattle.ms_queue.proofs.life.rest.RestLeaving.next.Goals as goal

@@ -5,7 +5,7 @@ use mathlib.Core.Option.{some}
 use lib.ListN.{get_elem?}
 use Rattle.atomic_table.proofs.Lists.{at_index}
 use Rattle.tagged_index.specs.Fields.{index_of}
-use Rattle.ring_queue.specs.Left.{cell_at}
+use Rattle.ring_queue.specs.code.Left.{cell_at}
 use Rattle.ring_queue.proofs.Leftover.{left_none, left_empty, left_next}
 use Rattle.ring_queue.proofs.life.rest.RestLeaving.next.Goals as goal
 

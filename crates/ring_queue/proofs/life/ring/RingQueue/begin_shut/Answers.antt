@@ -1,6 +1,6 @@
 use Rattle.running.proofs.Back.{runs_from}
-use Rattle.ring_queue.specs.Closing.{mark_account}
-use Rattle.ring_queue.specs.Ring.{keeps, machine_of}
+use Rattle.ring_queue.specs.code.Closing.{mark_account}
+use Rattle.ring_queue.specs.Calls.{keeps, machine_of}
 use Rattle.ring_queue.proofs.life.ring.RingQueue.begin_shut.Goals as goal
 
 pub returns-clause-ran : goal.returns-clause-ran

@@ -4,8 +4,8 @@ use Rattle.tagged_index.specs.Limits.{capacity_of}
 use Rattle.bounded_model.specs.Laws.{Leaves}
 use Rattle.running.proofs.Ends.{runs_all}
 use Rattle.running.specs.Passes.{root_in}
-use Rattle.ring_queue.specs.Leaving.{left_in}
-use Rattle.ring_queue.specs.Ring.{machine_of, shape_of, room_of, laps_of, passes_of}
+use Rattle.ring_queue.specs.code.Leaving.{left_in}
+use Rattle.ring_queue.specs.Calls.{machine_of, shape_of, room_of, laps_of, passes_of}
 use Rattle.ring_queue.proofs.Leftover.{leaves_all}
 use Rattle.ring_queue.proofs.life.ring.RingQueue.finish.Goals as goal
 

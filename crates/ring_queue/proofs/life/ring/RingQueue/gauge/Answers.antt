@@ -1,6 +1,6 @@
 use Rattle.std.proofs.Common.{refl}
 use Rattle.running.proofs.Back.{new_call}
-use Rattle.ring_queue.specs.Ring.{machine_of}
+use Rattle.ring_queue.specs.Calls.{machine_of}
 use Rattle.ring_queue.proofs.life.ring.RingQueue.gauge.Goals as goal
 
 pub returns-clause-of : goal.returns-clause-of

@@ -3,8 +3,8 @@ use Rattle.tagged_index.specs.declared.limit.Limits.{Limits}
 use Rattle.running.specs.Passes.{pass_line, root_line}
 use Rattle.ring_table.specs.Seats.{names}
 use Rattle.ring_table.specs.declared.line.SeatLine.{SeatLine}
-use Rattle.ring_queue.specs.Ring.{machine_of}
-use Rattle.ring_queue.specs.Roots.{MayTake}
+use Rattle.ring_queue.specs.Calls.{machine_of}
+use Rattle.ring_queue.specs.code.Roots.{MayTake}
 use Rattle.ring_queue.proofs.life.ring.RingQueue.join.Goals as goal
 
 pub take_back-requires : goal.take_back-requires

@@ -1,7 +1,7 @@
 use Rattle.std.proofs.Common.{◌≤◌, arith, refl}
 use Rattle.bounded_model.proofs.Hands.{within_capacity}
 use Rattle.bounded_model.proofs.Staying.{legal_before}
-use Rattle.ring_queue.specs.Ring.{machine_of, room_of, shape_of}
+use Rattle.ring_queue.specs.Calls.{machine_of, room_of, shape_of}
 use Rattle.running.proofs.Back.{new_call}
 use Rattle.ring_queue.proofs.life.ring.RingQueue.len.Goals as goal
 

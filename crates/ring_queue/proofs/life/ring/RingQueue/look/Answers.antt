@@ -1,7 +1,7 @@
 use Rattle.std.proofs.Common.{refl}
 use Rattle.ring_table.specs.declared.operation.Operation.TheVariants.{Look as LookFirst}
 use Rattle.running.proofs.Back.{new_call}
-use Rattle.ring_queue.specs.Ring.{machine_of}
+use Rattle.ring_queue.specs.Calls.{machine_of}
 use Rattle.ring_queue.proofs.life.ring.RingQueue.look.Goals as goal
 
 pub returns-clause-of : goal.returns-clause-of

@@ -4,10 +4,10 @@ use Rattle.bounded_model.specs.declared.views.Answered.TheVariants.{Look as Look
 use Rattle.bounded_model.specs.Laws.{Answers, LookGives}
 use Rattle.ring_table.specs.declared.operation.Operation.TheVariants.{Look as LookFirst}
 use Rattle.running.proofs.Back.{tried}
-use Rattle.ring_queue.specs.Calls.{is_call}
-use Rattle.ring_queue.specs.KeepsAnswers.{look_promises}
-use Rattle.ring_queue.specs.Looking.{look_account}
-use Rattle.ring_queue.specs.Ring.{keeps, machine_of, pass_in, shape_of}
+use Rattle.ring_queue.specs.code.Machine.{is_call}
+use Rattle.ring_queue.specs.code.KeepsAnswers.{look_promises}
+use Rattle.ring_queue.specs.code.Looking.{look_account}
+use Rattle.ring_queue.specs.Calls.{keeps, machine_of, pass_in, shape_of}
 use Rattle.ring_queue.proofs.FastPath.{at_most}
 use Rattle.ring_queue.proofs.life.ring.RingQueue.look_at_once.Goals as goal
 

@@ -10,8 +10,8 @@ use Rattle.ring_table.specs.declared.line.SeatLine.TheVariants.{Stock}
 use Rattle.ring_table.specs.Layout.{words_for, start_at}
 use Rattle.ring_table.specs.Seats.{names, cells_from}
 use Rattle.ring_table.proofs.Opening.{opens}
-use Rattle.ring_queue.specs.Limits.{laps_at, machine_at, shape_at}
-use Rattle.ring_queue.specs.Ring.{cells_of}
+use Rattle.ring_queue.specs.code.Machine.{laps_at, machine_at, shape_at}
+use Rattle.ring_queue.specs.Calls.{cells_of}
 use Rattle.ring_queue.proofs.life.ring.RingQueue.new.Goals as goal
 
 pub vacant-requires : goal.vacant-requires

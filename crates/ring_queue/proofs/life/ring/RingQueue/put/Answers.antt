@@ -4,14 +4,15 @@ use denote.Struct.Field.{u64-field}
 use Rattle.core.specs.contracts.result.Result as result
 use Rattle.bounded_model.specs.contracts.answers.PutRefused as put_refused
 use Rattle.running.specs.contracts.kept.Answered as answered
-use Rattle.ring_queue.specs.contracts.calls.putting.PutAt as put_at
+use Rattle.ring_queue.specs.contracts.code.putting.PutAt as put_at
 use Rattle.ring_queue.specs.contracts.life.spare.Spare as spare
 use Rattle.std.proofs.Common.{ap, refl}
 use Rattle.running.specs.contracts.code.Next as next
 use Rattle.running.proofs.Back.{has_returned_now, new_call, new_call_now}
-use Rattle.ring_queue.specs.KeepsAnswers.{put_given, put_promises}
-use Rattle.ring_queue.specs.Putting.{put_account}
-use Rattle.ring_queue.specs.Ring.{Pass, keeps, machine_of, pass_in}
+use Rattle.ring_queue.specs.code.KeepsAnswers.{put_given}
+use Rattle.ring_queue.specs.code.KeepsAnswers.{put_promises}
+use Rattle.ring_queue.specs.code.Putting.{put_account}
+use Rattle.ring_queue.specs.Calls.{Pass, keeps, machine_of, pass_in}
 use Rattle.ring_queue.proofs.Refusals.{full_tells, spent_tells}
 use Rattle.ring_queue.proofs.life.ring.RingQueue.put.Goals as goal
 

@@ -4,17 +4,18 @@ use denote.Struct.Field.{u64-field}
 use Rattle.core.specs.contracts.result.Result as result
 use Rattle.bounded_model.specs.contracts.answers.PutRefused as put_refused
 use Rattle.running.specs.contracts.kept.Answered as answered
-use Rattle.ring_queue.specs.contracts.calls.putting.PutAt as put_at
+use Rattle.ring_queue.specs.contracts.code.putting.PutAt as put_at
 use Rattle.ring_queue.specs.contracts.life.spare.Spare as spare
 use Rattle.std.proofs.Common.{refl}
 use Rattle.bounded_model.specs.declared.commands.Command.TheVariants.{Put}
 use Rattle.running.specs.contracts.code.Next as next
 use Rattle.running.proofs.Back.{has_returned_now, tried}
 use Rattle.bounded_model.specs.Laws.{Answers, PutGives, put_answered}
-use Rattle.ring_queue.specs.Calls.{is_call}
-use Rattle.ring_queue.specs.KeepsAnswers.{put_given, put_promises}
-use Rattle.ring_queue.specs.Putting.{put_account}
-use Rattle.ring_queue.specs.Ring.{keeps, machine_of, pass_in, shape_of}
+use Rattle.ring_queue.specs.code.Machine.{is_call}
+use Rattle.ring_queue.specs.code.KeepsAnswers.{put_given}
+use Rattle.ring_queue.specs.code.KeepsAnswers.{put_promises}
+use Rattle.ring_queue.specs.code.Putting.{put_account}
+use Rattle.ring_queue.specs.Calls.{keeps, machine_of, pass_in, shape_of}
 use Rattle.ring_queue.proofs.FastPath.{at_most}
 use Rattle.ring_queue.proofs.Refusals.{full_tells, full_tried, spent_tells, spent_tried}
 use Rattle.ring_queue.proofs.life.ring.RingQueue.put_at_once.Goals as goal

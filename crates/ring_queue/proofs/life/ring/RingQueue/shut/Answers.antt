@@ -1,5 +1,5 @@
 use Rattle.running.proofs.Back.{new_call}
-use Rattle.ring_queue.specs.Ring.{machine_of}
+use Rattle.ring_queue.specs.Calls.{machine_of}
 use Rattle.ring_queue.proofs.life.ring.RingQueue.shut.Goals as goal
 
 pub returns : goal.returns

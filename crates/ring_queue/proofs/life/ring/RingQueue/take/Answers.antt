@@ -5,15 +5,15 @@ use denote.Struct.Tuple.{Tuple}
 use Rattle.core.specs.contracts.result.Result as result
 use Rattle.bounded_model.specs.contracts.answers.TakeRefused as take_refused
 use Rattle.running.specs.contracts.kept.Answered as answered
-use Rattle.ring_queue.specs.contracts.calls.taking.TakeAt as take_at
+use Rattle.ring_queue.specs.contracts.code.taking.TakeAt as take_at
 use Rattle.ring_queue.specs.contracts.life.spare.Spare as spare
 use Rattle.std.proofs.Common.{[], ◌∷◌, ap, refl}
 use Rattle.running.specs.contracts.code.Next as next
 use Rattle.running.proofs.Back.{has_returned_now, new_call, new_call_now}
 use Rattle.ring_table.specs.declared.operation.Operation.TheVariants.{Take as TakeFirst}
-use Rattle.ring_queue.specs.KeepsAnswers.{take_given, take_promises}
-use Rattle.ring_queue.specs.Taking.{take_account}
-use Rattle.ring_queue.specs.Ring.{Pass, keeps, machine_of}
+use Rattle.ring_queue.specs.code.KeepsAnswers.{take_given, take_promises}
+use Rattle.ring_queue.specs.code.Taking.{take_account}
+use Rattle.ring_queue.specs.Calls.{Pass, keeps, machine_of}
 use Rattle.ring_queue.proofs.life.ring.RingQueue.take.Goals as goal
 
 pub returns-in_default-Done : goal.returns-in_default-Done

@@ -5,7 +5,7 @@ use denote.Struct.Tuple.{Tuple}
 use Rattle.core.specs.contracts.result.Result as result
 use Rattle.bounded_model.specs.contracts.answers.TakeRefused as take_refused
 use Rattle.running.specs.contracts.kept.Answered as answered
-use Rattle.ring_queue.specs.contracts.calls.taking.TakeAt as take_at
+use Rattle.ring_queue.specs.contracts.code.taking.TakeAt as take_at
 use Rattle.ring_queue.specs.contracts.life.spare.Spare as spare
 use Rattle.std.proofs.Common.{[], ◌∷◌, refl}
 use Rattle.bounded_model.specs.declared.commands.Command.TheVariants.{Take}
@@ -14,10 +14,10 @@ use Rattle.running.proofs.Back.{has_returned_now, tried}
 use Rattle.ring_table.specs.declared.operation.Operation.TheVariants.{Take as TakeFirst}
 use Rattle.bounded_model.specs.declared.views.Answered.TheVariants.{Take as TakeAnswered}
 use Rattle.bounded_model.specs.Laws.{Answers, TakeGives}
-use Rattle.ring_queue.specs.Calls.{is_call}
-use Rattle.ring_queue.specs.KeepsAnswers.{take_given, take_promises}
-use Rattle.ring_queue.specs.Taking.{take_account}
-use Rattle.ring_queue.specs.Ring.{keeps, machine_of, pass_in, shape_of}
+use Rattle.ring_queue.specs.code.Machine.{is_call}
+use Rattle.ring_queue.specs.code.KeepsAnswers.{take_given, take_promises}
+use Rattle.ring_queue.specs.code.Taking.{take_account}
+use Rattle.ring_queue.specs.Calls.{keeps, machine_of, pass_in, shape_of}
 use Rattle.ring_queue.proofs.FastPath.{at_most}
 use Rattle.ring_queue.proofs.life.ring.RingQueue.take_at_once.Goals as goal
 

@@ -7,8 +7,8 @@ use Rattle.running.specs.Code.{IsAccess}
 use Rattle.running.specs.declared.access.Access.TheVariants.{TakeAll as AccessTakeAll}
 use Rattle.stack_table.specs.Lists.{lists}
 use Rattle.stack_table.proofs.Hosts.{front_is}
-use Rattle.treiber_stack.specs.Folding.{nodes_of, folding, fold_line, fold_slots, HasReadToFold}
-use Rattle.treiber_stack.specs.Stack.{room_of, limit_of, machine_of}
+use Rattle.treiber_stack.specs.code.Folding.{nodes_of, folding, fold_line, fold_slots, HasReadToFold}
+use Rattle.treiber_stack.specs.Calls.{room_of, limit_of, machine_of}
 use Rattle.treiber_stack.specs.declared.bulk.folding.FoldAt.{FoldAt}
 use Rattle.treiber_stack.proofs.bulk.folding.FoldAtCodeStackLineOperationStackedFoldStop2.access.Goals as goal
 

@@ -3,15 +3,15 @@ use Rattle.atomic_table.specs.Table.{turned}
 use Rattle.tagged_index.specs.declared.word.TheConstants.{NULL}
 use Rattle.running.specs.Code.{Came}
 use Rattle.running.specs.declared.code.Next.TheVariants.{On, Lost, Done}
-use Rattle.treiber_stack.specs.Folding.{nodes_of, folding, fold_line, fold_slots, front_of, gone, HasReadToFold, FoldTold}
-use Rattle.treiber_stack.specs.Stack.{room_of, limit_of, machine_of}
+use Rattle.treiber_stack.specs.code.Folding.{nodes_of, folding, fold_line, fold_slots, front_of, gone, HasReadToFold, FoldTold}
+use Rattle.treiber_stack.specs.Calls.{room_of, limit_of, machine_of}
 use Rattle.treiber_stack.specs.declared.bulk.folding.Batch.{Batch}
 use Rattle.treiber_stack.specs.declared.bulk.folding.Walk.{Walk}
 use Rattle.treiber_stack.specs.declared.bulk.folding.FoldAt.{FoldAt}
 use Rattle.treiber_stack.specs.declared.bulk.folding.FoldAt.TheVariants.{TakeAll, LoadToTurn, LoadToFold, GiveBack}
 use Rattle.treiber_stack.specs.declared.bulk.folding.FoldStop.TheVariants.{Yields, Ended}
-use Rattle.treiber_stack.specs.declared.call_parts.giving.Chain.{Chain}
-use Rattle.treiber_stack.specs.declared.call_parts.giving.Give.TheVariants.{Load}
+use Rattle.treiber_stack.specs.declared.code.giving.Chain.{Chain}
+use Rattle.treiber_stack.specs.declared.code.giving.Give.TheVariants.{Load}
 use Rattle.treiber_stack.proofs.Folds.{Folding, refused, gave_fold}
 use Rattle.treiber_stack.proofs.Walking.{yields_more, tells_more, yields_last, tells_last}
 use Rattle.treiber_stack.proofs.Turning.{won_down, won_up, turn_goes, turn_ends}

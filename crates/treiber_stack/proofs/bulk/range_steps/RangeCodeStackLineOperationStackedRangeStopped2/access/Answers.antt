@@ -1,9 +1,9 @@
 use Rattle.std.proofs.Common.{sym, subst}
 use Rattle.running.specs.Code.{IsAccess}
 use Rattle.stack_table.specs.Lists.{lists}
-use Rattle.treiber_stack.specs.Begun.{put_begun}
-use Rattle.treiber_stack.specs.Ranging.{HasRead, range_line, range_slots, refused}
-use Rattle.treiber_stack.specs.Stack.{machine_of}
+use Rattle.treiber_stack.specs.code.Begun.{put_begun}
+use Rattle.treiber_stack.specs.code.Ranging.{HasRead, range_line, range_slots, refused}
+use Rattle.treiber_stack.specs.Calls.{machine_of}
 use Rattle.treiber_stack.specs.declared.bulk.range_steps.RangeAt.{RangeAt}
 use Rattle.treiber_stack.proofs.bulk.range_steps.RangeCodeStackLineOperationStackedRangeStopped2.access.Goals as goal
 

@@ -4,10 +4,10 @@ use Rattle.treiber_stack.specs.declared.bulk.range_steps.RangeAt.{RangeAt}
 use Rattle.treiber_stack.specs.declared.bulk.range_steps.RangeAt.TheVariants.{Load, Refuse, GiveBack}
 use Rattle.treiber_stack.specs.declared.bulk.range_steps.RangeEnd.TheVariants.{Spent as IsSpent, GaveBack}
 use Rattle.treiber_stack.specs.declared.bulk.range_steps.RangeStop.TheVariants.{Over}
-use Rattle.treiber_stack.specs.Begun.{put_begun}
-use Rattle.treiber_stack.specs.Ranging.{HasRead, refused}
-use Rattle.treiber_stack.specs.Refusing.{RefusesNode}
-use Rattle.treiber_stack.specs.Stack.{limit_of}
+use Rattle.treiber_stack.specs.code.Begun.{put_begun}
+use Rattle.treiber_stack.specs.code.Ranging.{HasRead, refused}
+use Rattle.treiber_stack.specs.code.Refusing.{RefusesNode}
+use Rattle.treiber_stack.specs.Calls.{limit_of}
 use Rattle.treiber_stack.proofs.RangeSteps.{LeadingRange, goes_to_top, goes_to_refuse, is_spent, gave_range}
 use Rattle.treiber_stack.proofs.bulk.range_steps.RangeCodeStackLineOperationStackedRangeStopped2.next.Goals as goal
 

@@ -1,6 +1,6 @@
 use Rattle.std.proofs.Common.{ℕ, sym, ap, ◌∙◌}
-use Rattle.treiber_stack.specs.Ranging.{places_from}
-use Rattle.treiber_stack.specs.Stack.{pass_in}
+use Rattle.treiber_stack.specs.code.Ranging.{places_from}
+use Rattle.treiber_stack.specs.Calls.{pass_in}
 use Rattle.treiber_stack.proofs.RangePlaces.{in_places}
 use Rattle.treiber_stack.proofs.life.stack.Stack.begin_range.Goals as goal
 

@@ -6,9 +6,9 @@ use Rattle.tagged_index.specs.declared.word.TheConstants.{NULL}
 use Rattle.bounded_model.specs.Laws.{Leaves}
 use Rattle.stack_table.specs.Layout.{top_at}
 use Rattle.running.proofs.Ends.{runs_all}
-use Rattle.treiber_stack.specs.Left.{left_in}
+use Rattle.treiber_stack.specs.code.Left.{left_in}
 use Rattle.running.specs.Passes.{root_in}
-use Rattle.treiber_stack.specs.Stack.{machine_of, shape_of, room_of, limit_of}
+use Rattle.treiber_stack.specs.Calls.{machine_of, shape_of, room_of, limit_of}
 use Rattle.treiber_stack.proofs.Leftover.{leaves_all}
 use Rattle.treiber_stack.proofs.life.stack.Stack.finish.Goals as goal
 

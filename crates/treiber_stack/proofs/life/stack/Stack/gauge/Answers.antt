@@ -8,8 +8,8 @@ use Rattle.stack_machine.specs.Machine.{ends}
 use Rattle.stack_table.specs.declared.operation.Operation.TheVariants.{Gauge as First}
 use Rattle.running.proofs.Ways.{started, begun_is, ends_so}
 use Rattle.tagged_index.specs.Fields.{tag_of}
-use Rattle.treiber_stack.specs.Gauging.{GaugeGives}
-use Rattle.treiber_stack.specs.Stack.{as_pass, machine_of, room_of, limit_of, pass_in}
+use Rattle.treiber_stack.specs.Calls.{GaugeGives, machine_of, room_of, limit_of, pass_in}
+use Rattle.treiber_stack.specs.code.Steps.{as_pass}
 use Rattle.treiber_stack.proofs.Gauges.{gauge_gives}
 use Rattle.treiber_stack.proofs.Gives.{ready_step}
 use Rattle.treiber_stack.proofs.life.stack.Stack.gauge.Goals as goal

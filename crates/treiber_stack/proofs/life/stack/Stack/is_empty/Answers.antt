@@ -7,9 +7,9 @@ use Rattle.stack_table.specs.declared.operation.Operation.TheVariants.{Look as F
 use Rattle.running.proofs.Back.{new_call}
 use Rattle.running.proofs.Since.{step_new}
 use Rattle.running.proofs.Ways.{begun_is}
-use Rattle.treiber_stack.specs.KeepsAnswers.{looked}
-use Rattle.treiber_stack.specs.Ran.{WasRun}
-use Rattle.treiber_stack.specs.Stack.{as_pass, machine_of, shape_of, pass_in}
+use Rattle.treiber_stack.specs.code.KeepsAnswers.{looked}
+use Rattle.treiber_stack.specs.Calls.{WasRun, machine_of, shape_of, pass_in}
+use Rattle.treiber_stack.specs.code.Steps.{as_pass}
 use Rattle.treiber_stack.proofs.life.stack.Stack.is_empty.Goals as goal
 
 pub returns-clause-of : goal.returns-clause-of

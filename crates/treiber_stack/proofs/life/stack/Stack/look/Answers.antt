@@ -1,7 +1,7 @@
 use Rattle.std.proofs.Common.{refl}
 use Rattle.stack_table.specs.declared.operation.Operation.TheVariants.{Look as LookFirst}
 use Rattle.running.proofs.Back.{new_call}
-use Rattle.treiber_stack.specs.Stack.{machine_of}
+use Rattle.treiber_stack.specs.Calls.{machine_of}
 use Rattle.treiber_stack.proofs.life.stack.Stack.look.Goals as goal
 
 pub returns-clause-of : goal.returns-clause-of

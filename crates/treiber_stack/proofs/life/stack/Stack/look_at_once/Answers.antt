@@ -4,10 +4,10 @@ use Rattle.bounded_model.specs.declared.views.Answered.TheVariants.{Look as Look
 use Rattle.bounded_model.specs.Laws.{Answers, LookGives}
 use Rattle.stack_table.specs.declared.operation.Operation.TheVariants.{Look as LookFirst}
 use Rattle.running.proofs.Back.{tried}
-use Rattle.treiber_stack.specs.Calls.{is_call}
-use Rattle.treiber_stack.specs.KeepsAnswers.{look_promises}
-use Rattle.treiber_stack.specs.Looking.{look_account}
-use Rattle.treiber_stack.specs.Stack.{keeps, machine_of, pass_in, shape_of}
+use Rattle.treiber_stack.specs.code.Machine.{is_call}
+use Rattle.treiber_stack.specs.code.KeepsAnswers.{look_promises}
+use Rattle.treiber_stack.specs.code.Looking.{look_account}
+use Rattle.treiber_stack.specs.Calls.{keeps, machine_of, pass_in, shape_of}
 use Rattle.treiber_stack.proofs.FastPath.{at_most}
 use Rattle.treiber_stack.proofs.life.stack.Stack.look_at_once.Goals as goal
 

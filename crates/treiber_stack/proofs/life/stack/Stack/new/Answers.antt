@@ -9,7 +9,7 @@ use Rattle.running.specs.Rule.{line_in}
 use Rattle.stack_table.specs.Layout.{words_for, start_at}
 use Rattle.stack_table.specs.Lines.{names}
 use Rattle.stack_table.proofs.Opening.{opens}
-use Rattle.treiber_stack.specs.Limits.{machine_at, shape_at}
+use Rattle.treiber_stack.specs.code.Machine.{machine_at, shape_at}
 use Rattle.treiber_stack.proofs.life.stack.Stack.new.Goals as goal
 
 pub vacant-requires : goal.vacant-requires

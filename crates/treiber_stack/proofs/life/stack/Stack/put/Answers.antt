@@ -8,10 +8,11 @@ use Rattle.running.specs.contracts.kept.Answered as answered
 use Rattle.std.proofs.Common.{ap, refl}
 use Rattle.running.specs.contracts.code.Next as next
 use Rattle.running.proofs.Back.{has_returned_now, new_call, new_call_now}
-use Rattle.treiber_stack.specs.contracts.calls.putting.PutAt as put_at
-use Rattle.treiber_stack.specs.KeepsAnswers.{put_given, put_promises}
-use Rattle.treiber_stack.specs.Putting.{put_account}
-use Rattle.treiber_stack.specs.Stack.{Pass, keeps, machine_of}
+use Rattle.treiber_stack.specs.contracts.code.putting.PutAt as put_at
+use Rattle.treiber_stack.specs.code.KeepsAnswers.{put_given}
+use Rattle.treiber_stack.specs.code.KeepsAnswers.{put_promises}
+use Rattle.treiber_stack.specs.code.Putting.{put_account}
+use Rattle.treiber_stack.specs.Calls.{Pass, keeps, machine_of}
 use Rattle.treiber_stack.proofs.life.stack.Stack.put.Goals as goal
 
 pub returns-in_default-Done : goal.returns-in_default-Done

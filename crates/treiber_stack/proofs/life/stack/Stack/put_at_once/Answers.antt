@@ -10,11 +10,12 @@ use Rattle.bounded_model.specs.declared.commands.Command.TheVariants.{Put}
 use Rattle.running.specs.contracts.code.Next as next
 use Rattle.running.proofs.Back.{has_returned_now, tried}
 use Rattle.bounded_model.specs.Laws.{Answers, PutGives, put_answered}
-use Rattle.treiber_stack.specs.contracts.calls.putting.PutAt as put_at
-use Rattle.treiber_stack.specs.Calls.{is_call}
-use Rattle.treiber_stack.specs.KeepsAnswers.{put_given, put_promises}
-use Rattle.treiber_stack.specs.Putting.{put_account}
-use Rattle.treiber_stack.specs.Stack.{keeps, machine_of, pass_in, shape_of}
+use Rattle.treiber_stack.specs.contracts.code.putting.PutAt as put_at
+use Rattle.treiber_stack.specs.code.Machine.{is_call}
+use Rattle.treiber_stack.specs.code.KeepsAnswers.{put_given}
+use Rattle.treiber_stack.specs.code.KeepsAnswers.{put_promises}
+use Rattle.treiber_stack.specs.code.Putting.{put_account}
+use Rattle.treiber_stack.specs.Calls.{keeps, machine_of, pass_in, shape_of}
 use Rattle.treiber_stack.proofs.FastPath.{at_most}
 use Rattle.treiber_stack.proofs.life.stack.Stack.put_at_once.Goals as goal
 

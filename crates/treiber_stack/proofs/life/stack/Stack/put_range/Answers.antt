@@ -1,8 +1,7 @@
 use Rattle.std.proofs.Common.{List, sym, ap, ◌∙◌, subst}
 use Rattle.bounded_model.specs.declared.views.PassView.{PassView}
 use Rattle.bounded_model.specs.Bulk.{RangeAnswers, somes}
-use Rattle.treiber_stack.specs.Ran.{WasRange}
-use Rattle.treiber_stack.specs.Stack.{pass_in}
+use Rattle.treiber_stack.specs.Calls.{WasRange, pass_in}
 use Rattle.treiber_stack.proofs.Loading.{somes_all}
 use Rattle.treiber_stack.proofs.life.stack.Stack.put_range.Goals as goal
 

@@ -2,8 +2,8 @@ use Rattle.std.proofs.Common.{refl, sym, ap, ◌∙◌, subst}
 use Rattle.stack_table.specs.declared.operation.Operation.{Operation}
 use Rattle.stack_table.specs.declared.operation.Operation.TheVariants.{Fold as FoldFirst}
 use Rattle.running.specs.Steps.{Stops}
-use Rattle.treiber_stack.specs.Folding.{fold_account}
-use Rattle.treiber_stack.specs.Stack.{machine_of, begun_of}
+use Rattle.treiber_stack.specs.code.Folding.{fold_account}
+use Rattle.treiber_stack.specs.Calls.{machine_of, begun_of}
 use Rattle.treiber_stack.proofs.Folds.{hands_on, all_gone, none_taken, same_gone, front_same}
 use Rattle.treiber_stack.proofs.life.stack.Stack.run_fold_for.Goals as goal
 

@@ -1,6 +1,6 @@
 use Rattle.running.proofs.Back.{new_call, runs_from}
-use Rattle.treiber_stack.specs.Closing.{mark_account}
-use Rattle.treiber_stack.specs.Stack.{keeps, machine_of}
+use Rattle.treiber_stack.specs.code.Closing.{mark_account}
+use Rattle.treiber_stack.specs.Calls.{keeps, machine_of}
 use Rattle.treiber_stack.proofs.life.stack.Stack.shut.Goals as goal
 
 pub whole-requires : goal.whole-requires

@@ -10,10 +10,10 @@ use Rattle.std.proofs.Common.{[], ◌∷◌, ap, refl}
 use Rattle.running.specs.contracts.code.Next as next
 use Rattle.running.proofs.Back.{has_returned_now, new_call, new_call_now}
 use Rattle.stack_table.specs.declared.operation.Operation.TheVariants.{Take as TakeFirst}
-use Rattle.treiber_stack.specs.contracts.calls.taking.TakeAt as take_at
-use Rattle.treiber_stack.specs.KeepsAnswers.{take_given, take_promises}
-use Rattle.treiber_stack.specs.Taking.{take_account}
-use Rattle.treiber_stack.specs.Stack.{Pass, keeps, machine_of}
+use Rattle.treiber_stack.specs.contracts.code.taking.TakeAt as take_at
+use Rattle.treiber_stack.specs.code.KeepsAnswers.{take_given, take_promises}
+use Rattle.treiber_stack.specs.code.Taking.{take_account}
+use Rattle.treiber_stack.specs.Calls.{Pass, keeps, machine_of}
 use Rattle.treiber_stack.proofs.life.stack.Stack.take.Goals as goal
 
 pub returns-in_default-Done : goal.returns-in_default-Done

@@ -13,11 +13,11 @@ use Rattle.running.proofs.Back.{has_returned_now, tried}
 use Rattle.stack_table.specs.declared.operation.Operation.TheVariants.{Take as TakeFirst}
 use Rattle.bounded_model.specs.declared.views.Answered.TheVariants.{Take as TakeAnswered}
 use Rattle.bounded_model.specs.Laws.{Answers, TakeGives}
-use Rattle.treiber_stack.specs.contracts.calls.taking.TakeAt as take_at
-use Rattle.treiber_stack.specs.Calls.{is_call}
-use Rattle.treiber_stack.specs.KeepsAnswers.{take_given, take_promises}
-use Rattle.treiber_stack.specs.Taking.{take_account}
-use Rattle.treiber_stack.specs.Stack.{keeps, machine_of, pass_in, shape_of}
+use Rattle.treiber_stack.specs.contracts.code.taking.TakeAt as take_at
+use Rattle.treiber_stack.specs.code.Machine.{is_call}
+use Rattle.treiber_stack.specs.code.KeepsAnswers.{take_given, take_promises}
+use Rattle.treiber_stack.specs.code.Taking.{take_account}
+use Rattle.treiber_stack.specs.Calls.{keeps, machine_of, pass_in, shape_of}
 use Rattle.treiber_stack.proofs.FastPath.{at_most}
 use Rattle.treiber_stack.proofs.life.stack.Stack.take_at_once.Goals as goal
 

@@ -1,0 +1,16 @@
+pub mod Closing
+pub mod Counting
+pub mod Every
+pub mod Gauging
+pub mod Giving
+pub mod KeepsAnswers
+pub mod KeepsGauge
+pub mod Left
+pub mod Looking
+pub mod Machine
+pub mod Naming
+pub mod Putting
+pub mod Seeking
+pub mod Shutting
+pub mod Steps
+pub mod Taking

@@ -1,0 +1,17 @@
+pub mod Closing
+pub mod Counting
+pub mod Every
+pub mod Gauging
+pub mod KeepsAnswers
+pub mod KeepsGauge
+pub mod KeepsPasses
+pub mod Leaving
+pub mod Left
+pub mod Looking
+pub mod Machine
+pub mod Naming
+pub mod Putting
+pub mod Roots
+pub mod Steps
+pub mod Taking
+pub mod Walking

@@ -1,0 +1,34 @@
+-- The machine of a ring with these limits, which of its operations makes a call, and what an operation has answered.
+use Rattle.std.specs.Prelude.{ℕ, ◌/◌, ◌≡◌}
+use Rattle.tagged_index.specs.Limits.{tag_limit_of}
+use Rattle.running.specs.Machine.{Machine}
+use Rattle.ring_table.specs.declared.operation.Operation.TheVariants.{Put as PutFirst}
+use Rattle.running.specs.declared.kept.Answered as answers
+use Rattle.ring_queue.specs.Prelude.{Close, CloseFirst, Command, Limits, Look, LookFirst, Operation, Put, SeatLine, Shape, Shut, ShutFirst, Take}
+use Rattle.ring_queue.specs.Prelude.{TakeFirst, capacity_of, names, passes_of, ring_on}
+use Rattle.ring_queue.specs.declared.life.spare.Spare.{Spare}
+
+-- each lap raises a slot's tag by two, so the last tag of an odd limit is of no use
+abbrev pub laps_at : Limits → ℕ
+laps_at k = tag_limit_of k / 2
+
+abbrev pub machine_at : {T : Type 0} → Limits → Machine T (SeatLine T) (Operation T) names
+machine_at {T} k = ring_on T (capacity_of k) (laps_at k) (passes_of k)
+
+abbrev pub shape_at : Type 0 → Limits → Shape
+shape_at T k = (machine_at {T = T} k).core.shape
+
+module _ {T : Type 0} where
+  -- the operation of a put of x
+  abbrev pub put_of : T → Operation T
+  put_of x = PutFirst (record { marker = record {}; value = x })
+
+  abbrev pub is_call : Command T → Operation T → Type 0
+  is_call (Put x) o = o ≡ put_of x
+  is_call Take o = o ≡ TakeFirst
+  is_call Close o = o ≡ CloseFirst
+  is_call Shut o = o ≡ ShutFirst
+  is_call Look o = o ≡ LookFirst
+
+abbrev pub Answered : Type 0 → Type 0
+Answered A = answers.Answered Spare A

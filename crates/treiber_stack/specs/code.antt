@@ -1,0 +1,16 @@
+pub mod Begun
+pub mod Closing
+pub mod Every
+pub mod Folding
+pub mod Giving
+pub mod KeepsAnswers
+pub mod Left
+pub mod Looking
+pub mod Machine
+pub mod Naming
+pub mod Putting
+pub mod RangeTrying
+pub mod Ranging
+pub mod Refusing
+pub mod Steps
+pub mod Taking
