@@ -24,10 +24,10 @@ mod places;
 mod rule;
 mod stepwise;
 
+pub use calls::gauging::Gauge;
 pub use code::closing::CloseOp;
 pub use code::counting::LenOp;
 pub use code::every::{AnyOp, QueueAt};
-pub use calls::gauging::Gauge;
 pub use code::gauging::GaugeOp;
 pub use code::looking::LookOp;
 pub use code::putting::PutOp;

@@ -10,12 +10,12 @@ ghost use Rattle.ms_queue.specs.code.Seeking.{seek_line};
 ghost use Rattle.ms_queue.specs.code.Shutting.{shut_line};
 ghost use Rattle.ms_queue.specs.code.Taking.{take_line};
 
-use crate::code::giving::{Give, Held};
-use crate::code::seeking::Seek;
 use crate::code::closing::CloseAt;
 use crate::code::every::{AnyOp, QueueAt};
+use crate::code::giving::{Give, Held};
 use crate::code::looking::LookAt;
 use crate::code::putting::PutAt;
+use crate::code::seeking::Seek;
 use crate::code::shutting::ShutAt;
 use crate::code::taking::TakeAt;
 use crate::life::queue::Queue;

@@ -3,12 +3,12 @@ ghost use Rattle.std.specs.Prelude.{◌≡◌};
 ghost use Rattle.bounded_model.specs.Stepping.{no_step};
 ghost use Rattle.ms_queue.specs.Calls.{IsPassOf, pass_in, IsMakingCall, making};
 
-use crate::code::seeking::Seek;
+use crate::calls::putting::put_operation;
 use crate::code::closing::CloseAt;
 use crate::code::every::{AnyOp, QueueAt};
 use crate::code::looking::LookAt;
 use crate::code::putting::PutAt;
-use crate::calls::putting::put_operation;
+use crate::code::seeking::Seek;
 use crate::code::shutting::ShutAt;
 use crate::code::taking::TakeAt;
 use crate::life::queue::{Pass, Queue};

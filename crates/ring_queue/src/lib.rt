@@ -27,10 +27,10 @@ mod places;
 mod rule;
 mod stepwise;
 
+pub use calls::gauging::Gauge;
 pub use code::closing::{CloseOp, ShutOp};
 pub use code::counting::LenOp;
 pub use code::every::{AnyOp, RingAt};
-pub use calls::gauging::Gauge;
 pub use code::gauging::GaugeOp;
 pub use code::looking::LookOp;
 pub use code::putting::PutOp;

@@ -6,11 +6,11 @@ ghost use Rattle.ring_queue.specs.code.Putting.{put_line};
 ghost use Rattle.ring_queue.specs.code.Taking.{take_line};
 ghost use Rattle.ring_queue.specs.code.Walking.{Aim, walk_line};
 
-use crate::code::walking::WalkAt;
 use crate::code::closing::{Mark, MarkAt};
 use crate::code::every::{AnyOp, RingAt};
 use crate::code::putting::PutAt;
 use crate::code::taking::TakeAt;
+use crate::code::walking::WalkAt;
 use crate::life::ring::RingQueue;
 use step_names::{Location, Named, StepName};
 

@@ -3,13 +3,13 @@ ghost use Rattle.std.specs.Prelude.{◌≡◌};
 ghost use Rattle.bounded_model.specs.Stepping.{no_step};
 ghost use Rattle.ring_queue.specs.Calls.{IsPassOf, pass_in, IsMakingCall, making};
 
-use crate::code::walking::WalkAt;
+use crate::calls::putting::put_operation;
 use crate::code::closing::{Mark, MarkAt};
 use crate::code::every::{AnyOp, RingAt};
 use crate::code::looking::LookAt;
 use crate::code::putting::PutAt;
-use crate::calls::putting::put_operation;
 use crate::code::taking::TakeAt;
+use crate::code::walking::WalkAt;
 use crate::life::ring::{Pass, RingQueue};
 use bounded_model::{Command, Reply, Stepped, Stepwise};
 use ring_table::Operation;

@@ -9,9 +9,9 @@ ghost use Rattle.treiber_stack.specs.code.Naming.{IsNextStep};
 ghost use Rattle.treiber_stack.specs.code.Putting.{put_line};
 ghost use Rattle.treiber_stack.specs.code.Taking.{take_line};
 
-use crate::code::giving::Give;
 use crate::code::closing::MarkAt;
 use crate::code::every::{AnyOp, StackAt};
+use crate::code::giving::Give;
 use crate::code::looking::LookAt;
 use crate::code::putting::PutAt;
 use crate::code::taking::TakeAt;

@@ -3,11 +3,11 @@ ghost use Rattle.std.specs.Prelude.{◌≡◌};
 ghost use Rattle.bounded_model.specs.Stepping.{no_step};
 ghost use Rattle.treiber_stack.specs.Calls.{IsPassOf, pass_in, IsMakingCall, making};
 
+use crate::calls::putting::put_operation;
 use crate::code::closing::{Mark, MarkAt};
 use crate::code::every::{AnyOp, StackAt};
 use crate::code::looking::LookAt;
 use crate::code::putting::PutAt;
-use crate::calls::putting::put_operation;
 use crate::code::taking::TakeAt;
 use crate::life::stack::{Pass, Stack};
 use bounded_model::{Command, Reply, Stepped, Stepwise};

@@ -7,9 +7,9 @@ ghost use Rattle.queue_machine.specs.declared.lines.Answer.TheVariants.{Len as A
 ghost use Rattle.queue_table.specs.declared.operation.Operation.TheVariants.{Len as LenFirst};
 ghost use Rattle.running.specs.Ops.{underway_of};
 ghost use Rattle.running.specs.Passes.{pass_in as pass_now};
+ghost use Rattle.running.specs.Kept.{HasNewCall};
 ghost use Rattle.ms_queue.specs.Calls.{IsCounting, IsPassOf, machine_of, pass_in, shape_of, WasRun, LenTried};
 ghost use Rattle.ms_queue.specs.code.Steps.{LenRan};
-ghost use Rattle.running.specs.Kept.{HasNewCall};
 
 use crate::code::counting::{LenAt, LenOp};
 use crate::life::queue::{Answered, Pass, Queue};

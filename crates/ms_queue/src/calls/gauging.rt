@@ -6,8 +6,8 @@ ghost use Rattle.bounded_model.specs.declared.views.Answered.TheVariants.{Gauge 
 ghost use Rattle.queue_machine.specs.declared.lines.Answer.TheVariants.{Gauge as AnswerGauge};
 ghost use Rattle.queue_table.specs.declared.operation.Operation.TheVariants.{Gauge as GaugeFirst};
 ghost use Rattle.running.specs.Ops.{underway_of};
-ghost use Rattle.ms_queue.specs.Calls.{GaugeGives, IsGauging, IsPassOf, limit_of, machine_of, pass_in, room_of, WasRun};
 ghost use Rattle.running.specs.Kept.{HasNewCall};
+ghost use Rattle.ms_queue.specs.Calls.{GaugeGives, IsGauging, IsPassOf, limit_of, machine_of, pass_in, room_of, WasRun};
 
 use crate::code::gauging::{GaugeAt, GaugeOp};
 use crate::code::seeking::Seek;

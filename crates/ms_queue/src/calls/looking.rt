@@ -7,11 +7,11 @@ ghost use Rattle.bounded_model.specs.declared.views.Answered.TheVariants.{Look a
 ghost use Rattle.running.specs.Kept.{HasNewCall, WasRun};
 ghost use Rattle.running.specs.Ops.{underway_of};
 ghost use Rattle.running.specs.Passes.{pass_in as pass_now};
+ghost use Rattle.queue_table.specs.declared.operation.Operation.TheVariants.{Look as LookFirst};
 ghost use Rattle.ms_queue.specs.code.Machine.{is_call};
 ghost use Rattle.ms_queue.specs.Calls.{IsLooking, IsPassOf, machine_of, pass_in, shape_of, LookTried};
 ghost use Rattle.ms_queue.specs.code.Looking.{look_account};
 ghost use Rattle.ms_queue.specs.code.Steps.{LookRan};
-ghost use Rattle.queue_table.specs.declared.operation.Operation.TheVariants.{Look as LookFirst};
 
 use crate::code::looking::{LookAt, LookOp};
 use crate::life::queue::{Answered, Pass, Queue};

@@ -6,8 +6,8 @@ ghost use Rattle.bounded_model.specs.declared.views.Answered.TheVariants.{Len as
 ghost use Rattle.ring_machine.specs.declared.lines.Answer.TheVariants.{Len as AnswerLen};
 ghost use Rattle.ring_table.specs.declared.operation.Operation.TheVariants.{Len as LenFirst};
 ghost use Rattle.running.specs.Ops.{underway_of};
-ghost use Rattle.ring_queue.specs.Calls.{IsCounting, WasRun, IsPassOf, machine_of, pass_in, shape_of};
 ghost use Rattle.running.specs.Kept.{HasNewCall};
+ghost use Rattle.ring_queue.specs.Calls.{IsCounting, WasRun, IsPassOf, machine_of, pass_in, shape_of};
 
 use crate::code::counting::{LenAt, LenOp};
 use crate::code::walking::WalkAt;

@@ -6,8 +6,8 @@ ghost use Rattle.bounded_model.specs.declared.views.Answered.TheVariants.{Gauge 
 ghost use Rattle.ring_machine.specs.declared.lines.Answer.TheVariants.{Gauge as AnswerGauge};
 ghost use Rattle.ring_table.specs.declared.operation.Operation.TheVariants.{Gauge as GaugeFirst};
 ghost use Rattle.running.specs.Ops.{underway_of};
-ghost use Rattle.ring_queue.specs.Calls.{GaugeGives, IsGauging, WasRun, IsPassOf, laps_of, machine_of, pass_in, room_of};
 ghost use Rattle.running.specs.Kept.{HasNewCall};
+ghost use Rattle.ring_queue.specs.Calls.{GaugeGives, IsGauging, WasRun, IsPassOf, laps_of, machine_of, pass_in, room_of};
 
 use crate::code::gauging::{GaugeAt, GaugeOp};
 use crate::code::walking::WalkAt;

@@ -7,14 +7,14 @@ ghost use Rattle.bounded_model.specs.declared.views.Answered.TheVariants.{Look a
 ghost use Rattle.running.specs.Kept.{HasNewCall, WasRun};
 ghost use Rattle.running.specs.Ops.{underway_of};
 ghost use Rattle.running.specs.Passes.{pass_in as pass_now};
+ghost use Rattle.ring_table.specs.declared.operation.Operation.TheVariants.{Look as LookFirst};
 ghost use Rattle.ring_queue.specs.code.Machine.{is_call};
 ghost use Rattle.ring_queue.specs.Calls.{IsLooking, IsPassOf, machine_of, pass_in, shape_of, LookTried};
 ghost use Rattle.ring_queue.specs.code.Looking.{look_account, slot_loaded};
 ghost use Rattle.ring_queue.specs.code.Steps.{LookStands, LookRan};
-ghost use Rattle.ring_table.specs.declared.operation.Operation.TheVariants.{Look as LookFirst};
 
-use crate::code::walk::Walk;
 use crate::code::looking::{LookAt, LookOp};
+use crate::code::walk::Walk;
 use crate::code::walking::{FAST_ROUNDS, WalkAt};
 use crate::life::ring::{Answered, Pass, RingQueue};
 use bounded_model::Stepped;

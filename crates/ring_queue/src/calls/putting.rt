@@ -36,8 +36,8 @@ ghost use Rattle.ring_queue.specs.code.Steps.{PutStands, PutRan};
 ghost use Rattle.ring_queue.specs.declared.code.putting.PutAt.TheVariants.{Walking};
 ghost use Rattle.ring_queue.specs.declared.code.walking.WalkAt.TheVariants.{LoadSlot};
 
-use crate::code::walk::Walk;
 use crate::code::putting::{Answer, PutAt, PutOp};
+use crate::code::walk::Walk;
 use crate::code::walking::{FAST_ROUNDS, WalkAt};
 use crate::life::ring::{Answered, Pass, RingQueue};
 use bounded_model::{PutRefused, Stepped};

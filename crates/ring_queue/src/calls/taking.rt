@@ -16,6 +16,7 @@
 //!
 //! The steps are those of `next` in code/taking.rt, repeated for the reasons that putting.rt gives.
 //! Change `next` first.
+ghost use Rattle.std.specs.Prelude.{◌≡◌, ◌≤◌, ◌+◌};
 ghost use Rattle.bounded_model.specs.Laws.{Answers, TakeGives};
 ghost use Rattle.bounded_model.specs.Stepping.{MatchStepped, no_step};
 ghost use Rattle.bounded_model.specs.declared.commands.Command.TheVariants.{Take as TakeCall};
@@ -23,17 +24,16 @@ ghost use Rattle.bounded_model.specs.declared.views.Answered.TheVariants.{Take a
 ghost use Rattle.running.specs.Kept.{HasNewCall, WasRun};
 ghost use Rattle.running.specs.Ops.{underway_of};
 ghost use Rattle.running.specs.Passes.{pass_in as pass_now};
+ghost use Rattle.ring_table.specs.declared.operation.Operation.TheVariants.{Take as TakeFirst};
 ghost use Rattle.ring_queue.specs.code.Machine.{is_call};
 ghost use Rattle.ring_queue.specs.Calls.{IsPassOf, machine_of, pass_in, shape_of, IsTaking, TakeTried};
 ghost use Rattle.ring_queue.specs.code.Taking.{take_account};
 ghost use Rattle.ring_queue.specs.code.Steps.{TakeStands, TakeRan};
-ghost use Rattle.std.specs.Prelude.{◌≡◌, ◌≤◌, ◌+◌};
-ghost use Rattle.ring_table.specs.declared.operation.Operation.TheVariants.{Take as TakeFirst};
 ghost use Rattle.ring_queue.specs.declared.code.taking.TakeAt.TheVariants.{Walking};
 ghost use Rattle.ring_queue.specs.declared.code.walking.WalkAt.TheVariants.{LoadSlot};
 
-use crate::code::walk::Walk;
 use crate::code::taking::{Answer, TakeAt, TakeOp};
+use crate::code::walk::Walk;
 use crate::code::walking::{FAST_ROUNDS, WalkAt};
 use crate::life::ring::{Answered, Pass, RingQueue};
 use bounded_model::{Stepped, TakeRefused};

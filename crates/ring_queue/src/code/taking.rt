@@ -1,6 +1,6 @@
 //! A take, step by step.
-ghost use Rattle.ring_queue.specs.code.Taking.{take_account, refusal_at};
 ghost use Rattle.std.specs.Prelude.{◌≡◌, ◌+◌};
+ghost use Rattle.ring_queue.specs.code.Taking.{take_account, refusal_at};
 
 use crate::code::walk::Walk;
 use crate::code::walking::{Found, STRIDE, WalkAt, behind, place_of, walk_access, walk_on};

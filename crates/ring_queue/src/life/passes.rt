@@ -4,10 +4,10 @@ ghost use Rattle.bounded_model.specs.Laws.{Heeds, IsFullOfPasses, Joins, MeetGiv
 ghost use Rattle.machine.specs.Seats.{Extends};
 ghost use Rattle.running.specs.Kept.{acts_in, acts_of_root};
 ghost use Rattle.running.specs.Passes.{acts_of_note, told_in};
-ghost use Rattle.ring_queue.specs.Calls.{IsNoteOf, IsPassOf, keeps, pass_in, shape_of, IsRootOf, Stocks, root_in};
-ghost use Rattle.ring_queue.specs.code.Roots.{MayGive, MayTake};
 ghost use Rattle.ring_table.specs.Seats.{names};
 ghost use Rattle.ring_table.specs.declared.line.SeatLine.{SeatLine};
+ghost use Rattle.ring_queue.specs.Calls.{IsNoteOf, IsPassOf, keeps, pass_in, shape_of, IsRootOf, Stocks, root_in};
+ghost use Rattle.ring_queue.specs.code.Roots.{MayGive, MayTake};
 
 use crate::life::ring::{Note, Pass, RingQueue, Root};
 use crate::life::spare::Spare;

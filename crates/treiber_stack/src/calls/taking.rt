@@ -22,11 +22,11 @@ ghost use Rattle.bounded_model.specs.declared.views.Answered.TheVariants.{Take a
 ghost use Rattle.running.specs.Kept.{HasNewCall, WasRun};
 ghost use Rattle.running.specs.Ops.{underway_of};
 ghost use Rattle.running.specs.Passes.{pass_in as pass_now};
+ghost use Rattle.stack_table.specs.declared.operation.Operation.TheVariants.{Take as TakeFirst};
 ghost use Rattle.treiber_stack.specs.code.Machine.{is_call};
 ghost use Rattle.treiber_stack.specs.Calls.{IsPassOf, machine_of, pass_in, shape_of, IsTaking, TakeTried};
 ghost use Rattle.treiber_stack.specs.code.Steps.{IsSeatOf, TakeStands, TakeRan};
 ghost use Rattle.treiber_stack.specs.code.Taking.{take_account};
-ghost use Rattle.stack_table.specs.declared.operation.Operation.TheVariants.{Take as TakeFirst};
 
 use crate::code::giving::Give;
 use crate::code::taking::{Answer, TakeAt, TakeOp};
