@@ -7,3 +7,4 @@ pub mod Refusals
 pub mod Works
 pub mod Ranges
 pub mod Splitting
+pub mod Refused

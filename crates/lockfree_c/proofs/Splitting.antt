@@ -9,7 +9,7 @@ use Rattle.lockfree_c.specs.Sides.{SideSplit}
 use Rattle.lockfree_c.specs.Stacks.{stack_reading}
 use Rattle.lockfree_c.specs.declared.answers.TheConstants.{NO_MEMORY}
 use Rattle.lockfree_c.specs.declared.held.Held.{Held}
-use Rattle.lockfree_c.specs.declared.held.Held.TheVariants.{Nothing, Queue, Stack, Ring}
+use Rattle.lockfree_c.specs.declared.held.Held.TheVariants.{Nothing, Queue, Stack, Ring, Producer, Consumer}
 use Rattle.lockfree_c.specs.declared.side.Side.{Side}
 use Rattle.lockfree_c.specs.declared.side.Side.TheVariants.{Root, Pass, Rest}
 
@@ -23,3 +23,5 @@ unsplit Nothing = inr refl
 unsplit (Queue s) = side_unsplit queue_reading s
 unsplit (Stack s) = side_unsplit stack_reading s
 unsplit (Ring s) = side_unsplit ring_reading s
+unsplit (Producer p) = (refl, inr refl)
+unsplit (Consumer c) = (refl, inr refl)

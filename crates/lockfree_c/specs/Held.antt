@@ -27,7 +27,7 @@ use Rattle.lockfree_c.specs.declared.answers.TheConstants.{NO_MEMORY, BAD_CAPACI
 use Rattle.lockfree_c.specs.declared.calls.queue.QueueWork.{QueueWork}
 use Rattle.lockfree_c.specs.declared.calls.ring.RingWork.{RingWork}
 use Rattle.lockfree_c.specs.declared.held.Held.{Held}
-use Rattle.lockfree_c.specs.declared.held.Held.TheVariants.{Nothing, Queue, Stack, Ring}
+use Rattle.lockfree_c.specs.declared.held.Held.TheVariants.{Nothing, Queue, Stack, Ring, Producer, Consumer}
 use Rattle.lockfree_c.specs.declared.pass.PassOf.{PassOf}
 use Rattle.lockfree_c.specs.declared.side.Side.TheVariants.{Pass}
 
@@ -43,6 +43,8 @@ IsHeld Nothing = Unit {0}
 IsHeld (Queue s) = IsSide queues.queue_reading s
 IsHeld (Stack s) = IsSide stacks.stack_reading s
 IsHeld (Ring s) = IsSide rings.ring_reading s
+IsHeld (Producer p) = Unit {0}
+IsHeld (Consumer c) = Unit {0}
 
 -- Why it does not make a call that only some containers have
 abbrev pub refusal_of : Held → ℕ
@@ -64,6 +66,8 @@ EachDoes OfQueue OfStack OfRing (Queue s) (Queue t) a = SideCalled OfQueue s t a
 EachDoes OfQueue OfStack OfRing (Stack s) (Stack t) a = SideCalled OfStack s t a
 EachDoes OfQueue OfStack OfRing (Ring s) (Ring t) a = SideCalled OfRing s t a
 EachDoes OfQueue OfStack OfRing Nothing Nothing a = a ≡ bare OTHER_HANDLE
+EachDoes OfQueue OfStack OfRing (Producer p) g a = (a ≡ bare OTHER_HANDLE) × (g ≡ Producer p)
+EachDoes OfQueue OfStack OfRing (Consumer c) g a = (a ≡ bare OTHER_HANDLE) × (g ≡ Consumer c)
 EachDoes OfQueue OfStack OfRing h g a = ⊥
 
 -- with this number of tries
@@ -150,6 +154,8 @@ HeldSplit (Stack s) (Stack t) (Err code) = SideSplit stacks.stack_reading s t (E
 HeldSplit (Ring s) (Ring t) (Ok (Ring u)) = SideSplit rings.ring_reading s t (Ok u)
 HeldSplit (Ring s) (Ring t) (Err code) = SideSplit rings.ring_reading s t (Err code)
 HeldSplit Nothing Nothing (Err code) = (code ≡ OTHER_HANDLE) ⊎ (code ≡ NO_MEMORY)
+HeldSplit (Producer p) g (Err code) = (g ≡ Producer p) × ((code ≡ OTHER_HANDLE) ⊎ (code ≡ NO_MEMORY))
+HeldSplit (Consumer c) g (Err code) = (g ≡ Consumer c) × ((code ≡ OTHER_HANDLE) ⊎ (code ≡ NO_MEMORY))
 HeldSplit h g made = ⊥
 
 -- a pass that is to be joined to a root is one of its container
@@ -178,4 +184,6 @@ HeldFinished (Queue s) (Queue t) a = SideFinished queues.queue_reading queue_lef
 HeldFinished (Stack s) (Stack t) a = SideFinished stacks.stack_reading stack_left.left_in s t a
 HeldFinished (Ring s) (Ring t) a = SideFinished rings.ring_reading ring_left.left_in s t a
 HeldFinished Nothing Nothing a = a ≡ bare OTHER_HANDLE
+HeldFinished (Producer p) g a = (a ≡ bare OTHER_HANDLE) × (g ≡ Producer p)
+HeldFinished (Consumer c) g a = (a ≡ bare OTHER_HANDLE) × (g ≡ Consumer c)
 HeldFinished h g a = ⊥

@@ -12,3 +12,5 @@ pub mod Held
 pub mod Owned
 pub mod Lending
 pub mod Slots
+pub mod Ends
+pub mod Spsc

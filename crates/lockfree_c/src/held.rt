@@ -28,6 +28,7 @@ use crate::side::Side;
 use bounded_model::Command;
 use ms_queue::Queue;
 use ring_queue::RingQueue;
+use rtrb::{Consumer, Producer};
 use running::aside;
 use std::alloc::Global;
 use std::mem;
@@ -71,13 +72,15 @@ pub type RingSide = Side<
     ring_queue::Rest<u64>,
 >;
 
-/// Nothing, or a side of one of three containers.
+/// Nothing, a side of one of three containers, or an end of a ring for one producer and one consumer.
 #[derive(Drop)]
 pub enum Held {
     Nothing,
     Queue(QueueSide),
     Stack(StackSide),
     Ring(RingSide),
+    Producer(Producer<u64>),
+    Consumer(Consumer<u64>),
 }
 
 // Lets the pass make its call, whichever its container is. Any other handle gives `OTHER_HANDLE`.
@@ -229,7 +232,7 @@ impl Held {
         ensures gives { HeldSplit self.old self.new result }
     {
         match self {
-            Held::Nothing => Err(OTHER_HANDLE),
+            Held::Nothing | Held::Producer(_) | Held::Consumer(_) => Err(OTHER_HANDLE),
             Held::Queue(side) => Ok(Held::Queue(side.split()?)),
             Held::Stack(side) => Ok(Held::Stack(side.split()?)),
             Held::Ring(side) => Ok(Held::Ring(side.split()?)),
@@ -280,7 +283,6 @@ impl Held {
         ensures gives { HeldFinished self result.0 result.1 }
     {
         match self {
-            Held::Nothing => (Held::Nothing, Answer::of(OTHER_HANDLE)),
             Held::Queue(side) => {
                 let (side, answer) = side.finish();
                 (Held::Queue(side), answer)
@@ -293,6 +295,7 @@ impl Held {
                 let (side, answer) = side.finish();
                 (Held::Ring(side), answer)
             }
+            other => (other, Answer::of(OTHER_HANDLE)),
         }
     }
 

@@ -1,4 +1,4 @@
-//! The queue, the stack and the ring for C, C++ and Rust: what a program that is not Rattle holds,
+//! The queue, the stack, the ring and the ring for one producer and one consumer for C, C++ and Rust: what a program that is not Rattle holds,
 //! and the calls that it makes.
 //!
 //! Promised, as long as C keeps the rules of `c/lockfree.h`:
@@ -13,6 +13,7 @@ mod bulk;
 mod calls;
 mod creating;
 mod crossing;
+mod ends;
 mod exports;
 mod handle;
 mod held;
@@ -22,6 +23,7 @@ mod pass;
 mod root;
 mod side;
 mod slot;
+mod spsc;
 mod stage;
 mod steps;
 mod work;
