@@ -21,7 +21,7 @@ Out = Consumer ℕ Global AnyItems
 abbrev pub Sends : In → List ℕ → In → Type 0
 Sends p xs q = SameProducer p q × (sent q ≡ sent p ++ xs) × (known_free p ≤ known_free q + length xs)
 
--- nothing was pushed, and at one moment no slot was free
+-- nothing was pushed, and the producer, who looked, knew of no free slot
 pub record SeesNoSlot (p q : In) : Type 0 where
   pub at : In
   pub looked : ProducerLooked p at
@@ -40,7 +40,7 @@ Pushed p x q a = (((a ≡ bare OK) × Sends p (x ∷ []) q) ⊎ NoRoom p q a) ×
 abbrev pub Receives : Out → List ℕ → Out → Type 0
 Receives c xs d = SameConsumer c d × (received d ≡ received c ++ xs) × IsPrefix (known_items c) (xs ++ known_items d)
 
--- nothing was popped, and at one moment there was no item
+-- nothing was popped, and the consumer, who looked, knew of no item
 pub record SeesNoItem (c d : Out) : Type 0 where
   pub at : Out
   pub looked : ConsumerLooked c at
@@ -63,13 +63,15 @@ Room p q a = ProducerLooked p q × (a.value ≡ known_free q) × ((a.code ≡ OK
 abbrev pub Size : Out → Out → Answer → Type 0
 Size c d a = ConsumerLooked c d × (a.value ≡ length (known_items d)) × ((a.code ≡ OK) ⊎ (a.code ≡ CLOSED))
 
--- the first values of an array, as many as found a slot
+-- the first values of an array, as many as found a slot: one at least, unless the array has none
 abbrev pub PushedMany : In → List ℕ → In → Answer → Type 0
-PushedMany p xs q a = ((a.code ≡ OK) × (a.value ≤ length xs) × Sends p (take a.value xs) q) ⊎ NoRoom p q a
+PushedMany p xs q a = ((a.code ≡ OK) × (a.value ≤ length xs) × Sends p (take a.value xs) q
+    × (0 < length xs → 0 < a.value) × (a.value < length xs → known_free q ≡ 0)) ⊎ NoRoom p q a
 
--- the oldest items, written to the first places of an array, as many as there were and as it has places
+-- the oldest items, written to the first places of an array, as many as there were and as it has places: one at least, unless it has none
 abbrev pub PoppedMany : Out → List ℕ → List ℕ → Out → Answer → Type 0
-PoppedMany c xs ys d a = ((a.code ≡ OK) × (a.value ≤ length xs) × (drop a.value ys ≡ drop a.value xs) × Receives c (take a.value ys) d) ⊎ ((ys ≡ xs) × NoItem c d a)
+PoppedMany c xs ys d a = ((a.code ≡ OK) × (a.value ≤ length xs) × (drop a.value ys ≡ drop a.value xs) × Receives c (take a.value ys) d
+    × (0 < length xs → 0 < a.value) × (a.value < length xs → known_items d ≡ [])) ⊎ ((ys ≡ xs) × NoItem c d a)
 
 -- the oldest value, which stays
 abbrev pub Peeked : Out → Out → Answer → Type 0
