@@ -11,7 +11,8 @@ use Rattle.running.specs.Kept.{OpRunsFor, answer_of}
 use Rattle.running.specs.Passes.{begun_of}
 use Rattle.ring_table.specs.declared.operation.Operation.{Operation}
 use Rattle.ring_queue.specs.code.Machine.{is_call}
-use Rattle.ring_queue.specs.code.Every.{every_account, every_promises}
+use Rattle.ring_queue.specs.code.Every.{every_account}
+use Rattle.ring_queue.specs.code.KeepsEvery.{every_promises}
 use Rattle.ring_queue.specs.Calls.{Pass, keeps, machine_of, shape_of, AnyOp}
 use Rattle.ring_queue.proofs.Refusals.{full_tells, spent_tells}
 use Rattle.lockfree_c.specs.Calls.{Tried}

@@ -29,7 +29,7 @@ use Rattle.ms_queue.specs.code.Gauging.{gauge_account}
 use Rattle.ms_queue.specs.code.Every.{every_account}
 use Rattle.ms_queue.specs.declared.calls.gauging.Gauge.{Gauge}
 
--- a queue, its passes and its root, and what an operation has answered
+-- a queue, its passes and its root, and the operations that its calls begin
 abbrev pub Queue : Type 0 → Type 0
 Queue T = declared.Queue T
 
@@ -140,6 +140,8 @@ WasRun c o begun back answer = HasRun (machine_of c) o back.pass.seat.me.0 begun
 abbrev pub GaugeGives : {T : Type 0} → ℕ → ℕ → PassView T → PassView T → Gauge → Type 0
 GaugeGives n limit v w g = Adds v w [] × Sometime v.seen w.seen (IsGauged n limit g.closed g.used)
 
+-- A call that made a bounded number of steps. It is still under way, begun as before, or it was run as a whole call is and gave what that
+-- gives.
 module _ {T : Type 0} (c : Queue T) where
   abbrev pub PutTried : T → PassView T → Stepped (PutOp T) (Pass T) (Result ℕ (PutRefused T)) → Type 0
   PutTried x begun made = MatchStepped made

@@ -1,9 +1,11 @@
+-- How the operations of a queue are read as its machine's. Calls.antt stands on these files, except `Steps`, `Naming` and `KeepsGauge`, which stand on it.
 pub mod Closing
 pub mod Counting
 pub mod Every
 pub mod Gauging
 pub mod Giving
 pub mod KeepsAnswers
+pub mod KeepsEvery
 pub mod KeepsGauge
 pub mod Left
 pub mod Looking

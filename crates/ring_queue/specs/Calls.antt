@@ -31,7 +31,7 @@ use Rattle.ring_queue.specs.code.Gauging.{gauge_account}
 use Rattle.ring_queue.specs.code.Every.{every_account}
 use Rattle.ring_queue.specs.declared.calls.gauging.Gauge.{Gauge}
 
--- a ring, its passes and its root, and what an operation has answered
+-- a ring, its passes and its root, and the operations that its calls begin
 abbrev pub RingQueue : Type 0 → Type 0
 RingQueue T = declared.RingQueue T
 
@@ -153,6 +153,8 @@ WasRun c o begun back answer = HasRun (machine_of c) o back.pass.seat.me.0 begun
 abbrev pub GaugeGives : {T : Type 0} → ℕ → ℕ → PassView T → PassView T → Gauge → Type 0
 GaugeGives n laps v w g = Adds v w [] × Sometime v.seen w.seen (IsGauged n laps g.closed g.used)
 
+-- A call that made a bounded number of steps. It is still under way, begun as before, or it was run as a whole call is and gave what that
+-- gives.
 module _ {T : Type 0} (c : RingQueue T) where
   abbrev pub PutTried : T → PassView T → Stepped (PutOp T) (Pass T) (Result ℕ (PutRefused T)) → Type 0
   PutTried x begun made = MatchStepped made

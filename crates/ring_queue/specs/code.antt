@@ -1,8 +1,10 @@
+-- How the operations of a ring are read as its machine's. Calls.antt stands on these files, except `Steps`, `Naming`, `KeepsGauge` and `Roots`, which stand on it.
 pub mod Closing
 pub mod Counting
 pub mod Every
 pub mod Gauging
 pub mod KeepsAnswers
+pub mod KeepsEvery
 pub mod KeepsGauge
 pub mod KeepsPasses
 pub mod Leaving

@@ -1,6 +1,6 @@
 -- Where the steps of a range lead, by what they have told.
 use Rattle.std.proofs.lemmas.Bool.{false≢true}
-use Rattle.std.proofs.Common.{◌≡◌, ℕ, ◌-◌, ◌<◌, ◌≤◌, Bool, true, false, List, length, refl, sym, ap, ◌∙◌, subst, arith}
+use Rattle.std.proofs.Common.{◌≡◌, ℕ, ◌<◌, ◌≤◌, Bool, true, false, List, length, refl, sym, ap, ◌∙◌, subst, arith}
 use Rattle.std.specs.Prelude.{Err}
 use Rattle.running.specs.Code.{Tells}
 use Rattle.treiber_stack.specs.Prelude.{AnswerPut, Ended, Line, On, Operation, Pass, PassView, Putting, Ran, Stops, ends, is_idle, none_of}

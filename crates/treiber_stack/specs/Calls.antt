@@ -1,5 +1,5 @@
 -- What a stack, its passes and its roots are, and what its calls promise. The laws of a call (`PutGives` and the like) are those of every
--- container. Ranges and folds are in Bulk.antt. How a state of an operation is read as a line of the machine is said below code/.
+-- container. What the calls of ranges and folds promise beside their runs is in Bulk.antt. How a state of an operation is read as a line of the machine is said below code/.
 use Rattle.std.specs.Prelude.{ℕ, List, Result, Ok, Err, ◌≡◌, [], ◌∷◌, drop, Bool}
 use Rattle.running.specs.Kept as kept
 use Rattle.running.specs.Machine as running
@@ -27,7 +27,7 @@ use Rattle.treiber_stack.specs.code.Looking.{look_account}
 use Rattle.treiber_stack.specs.code.Every.{every_account}
 use Rattle.treiber_stack.specs.declared.calls.gauging.Gauge.{Gauge}
 
--- a stack, its passes and its root, and what an operation has answered
+-- a stack, its passes and its root, and the operations that its calls begin
 abbrev pub Stack : Type 0 → Type 0
 Stack T = declared.Stack T
 
@@ -89,7 +89,7 @@ module _ {T : Type 0} where
   abbrev pub begun_of : Stack T → runs.Pass T (Line T) → PassView T
   begun_of c p = passes.begun_of (machine_of c) p
 
-  -- a pass between its operations, and its seat alone
+  -- a pass between its operations
   abbrev pub IsPassOf : Stack T → Pass T → Type 0
   IsPassOf c p = kept.IsPassAt (machine_of c) keeps c.table.shared.table_id p
 
@@ -158,6 +158,8 @@ WasRange {T} c begun vs r back = MatchCall vs r (pass_in back ≡ begun) (λ a. 
 abbrev pub GaugeGives : {T : Type 0} → ℕ → ℕ → PassView T → PassView T → Gauge → Type 0
 GaugeGives n limit v w g = Adds v w [] × Sometime v.seen w.seen (IsGauged n limit g.closed g.used)
 
+-- A call that made a bounded number of steps. It is still under way, begun as before, or it was run as a whole call is and gave what that
+-- gives.
 module _ {T : Type 0} (c : Stack T) where
   abbrev pub PutTried : T → PassView T → Stepped (PutOp T) (Pass T) (Result ℕ (PutRefused T)) → Type 0
   PutTried x begun made = MatchStepped made

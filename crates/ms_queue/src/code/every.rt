@@ -181,7 +181,7 @@ impl<T> Code<Queue<T>, T, Line<T>, Operation<T>, Queued, Answered<Reply<T>>, 2> 
 
 impl<T> Replies<Queue<T>, T, Line<T>, Operation<T>, Queued, (), Reply<T>, 2> for QueueAt<T> {
     ghost use Rattle.std.specs.Prelude.{refl};
-    ghost use Rattle.ms_queue.specs.code.Every.{every_given, every_promises};
+    ghost use Rattle.ms_queue.specs.code.KeepsEvery.{every_given, every_promises};
 
     ghost gives = { every_promises };
 

@@ -1,4 +1,4 @@
--- Which roots are a ring's, and what they have seen.
+-- What the stock of a ring's root must be before it gives a pass, and before it takes one back.
 use Rattle.std.specs.Prelude.{ℕ, ◌<◌, Vec}
 use Rattle.std.specs.declared.alloc.Global.{Global}
 use Rattle.ring_queue.specs.Prelude.{Limits, SeatLine, names}

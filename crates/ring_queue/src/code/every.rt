@@ -172,7 +172,7 @@ impl<T> Code<RingQueue<T>, T, SeatLine<T>, Operation<T>, Ringed, Answered<Reply<
 impl<T> Replies<RingQueue<T>, T, SeatLine<T>, Operation<T>, Ringed, Spare, Reply<T>, 0>
     for RingAt<T> {
     ghost use Rattle.std.specs.Prelude.{refl};
-    ghost use Rattle.ring_queue.specs.code.Every.{every_given, every_promises};
+    ghost use Rattle.ring_queue.specs.code.KeepsEvery.{every_given, every_promises};
 
     ghost gives = { every_promises };
 

@@ -1,6 +1,6 @@
 -- Giving a chain of nodes back.
 use Rattle.std.specs.Prelude.{◌≡◌, ℕ, ◌<◌, List}
-use Rattle.treiber_stack.specs.Prelude.{GiveBack, Giving, Line, LinkToFree, LoadFreeToGive, ends, fields_of, first, last}
+use Rattle.treiber_stack.specs.Prelude.{GiveBack, Giving, Line, LinkToFree, LoadFreeToGive, fields_of, first, last}
 use Rattle.treiber_stack.specs.declared.code.giving.Chain.{Chain}
 use Rattle.treiber_stack.specs.declared.code.giving.Give.{Give}
 use Rattle.treiber_stack.specs.declared.code.giving.Give.TheVariants.{Load, Link, Exchange}

@@ -1,7 +1,6 @@
 -- At which state a call stands, and what some of its steps give.
 use Rattle.std.specs.Prelude.{ℕ, List, Option as Slot, ◌≡◌, Bool, []}
 use Rattle.running.specs.declared.passes.Pass as runs
-use Rattle.running.specs.Kept as kept
 use Rattle.running.specs.Passes as passes
 use Rattle.running.specs.Steps.{Stands}
 use Rattle.treiber_stack.specs.Prelude.{AnswerLook, Ended, Finding, Giving, Line, LoadTopToLook, LookFirst, MatchNext, Next, Operation, Outcome, Pass}
@@ -23,6 +22,7 @@ module _ {T : Type 0} where
   abbrev pub as_pass : runs.Pass T (Line T) → CallerPass T
   as_pass p = record { pass = p; kept = tt }
 
+  -- the seat of a pass between its operations
   abbrev pub IsSeatOf : Stack T → runs.Pass T (Line T) → Type 0
   IsSeatOf c p = passes.IsPassOn (machine_of c) c.table.shared.table_id p
 

@@ -169,7 +169,7 @@ impl<T> Code<Stack<T>, T, Line<T>, Operation<T>, Stacked, Answered<Reply<T>>, 2>
 
 impl<T> Replies<Stack<T>, T, Line<T>, Operation<T>, Stacked, (), Reply<T>, 2> for StackAt<T> {
     ghost use Rattle.std.specs.Prelude.{refl};
-    ghost use Rattle.treiber_stack.specs.code.Every.{every_given, every_promises};
+    ghost use Rattle.treiber_stack.specs.code.KeepsEvery.{every_given, every_promises};
 
     ghost gives = { every_promises };
 
