@@ -1,23 +1,25 @@
-/* A bounded queue, a bounded stack and a ring that many threads share without locks. For C and C++.
- * The functions are proved; the inline ones at the end are tested.
+/* A bounded queue, stack and ring that many threads share without locks, and a ring of one producer
+ * and one consumer (SPSC). For C and C++. The functions are proved; the inline ones are tested.
  *
- * Which one: a stack gives the last value first, a queue and a ring the first. Between threads a
- * ring is faster than a queue, and with more than 2 slots it lasts longer. From 64 slots on each
- * value takes half the memory, and each pass that the ring is made for 20 bytes. So take the ring if
- * you can name the most passes at one time, and the queue if you cannot.
+ * Which one: a stack gives the last value first, the others the first. If one thread at a time
+ * pushes and one pops, take the SPSC ring: its calls are wait-free, a value takes 8 bytes, and it
+ * does not wear out. Between threads a ring is faster than a queue, and with more than 2 slots it
+ * lasts longer. From 64 slots on each value takes half the memory, and each pass that it is made
+ * for 20 bytes. So take it if you can name the most passes at one time, and else the queue.
  *
  * The library keeps a handle in your memory: a root or a pass of one container. All zero bytes are
  * an empty handle. A root gives passes, one to each thread, and takes them back. A pass makes the
  * calls. Each handle has a share of its container, so no pass is used with another container. The
- * last handle of a container that is freed frees the container.
+ * last handle of a container that is freed frees the container. An SPSC ring has two handles, its
+ * ends, which make the calls: the producer pushes, and the consumer pops.
  *
  * Six rules that no check can enforce:
  *   - Zero a handle before its first use. Then only the functions below write it. It may be moved
  *     in memory between calls. Never use a copy of it.
- *   - Give a handle to one call at a time, never a null pointer, and two handles to a _split or a
- *     _join. Different handles, also of one container, may be used in different threads at the same
- *     time. If a handle goes to another thread, something orders the two threads: a start or a join
- *     of a thread, a lock, or a release and an acquire.
+ *   - Give a handle to one call at a time, never a null pointer, and two handles to a _split, a
+ *     _join or a _spsc_new. Different handles, also of one container, may be used in different
+ *     threads at the same time. If a handle goes to another thread, something orders the two
+ *     threads: a start or a join of a thread, a lock, or a release and an acquire.
  *   - malloc, realloc and free belong to one allocator, whose memory is aligned as the C standard
  *     says.
  *   - If a lockfree_put_range was BUSY, call it again with the same array, unchanged.
@@ -26,13 +28,13 @@
  *     container, but no proof says so: two such mistakes at the same time can hide each other.)
  *
  * A code answers any other misuse of a handle, and any other failure of a call. Then nothing has
- * changed but what is said here. Everything that a thread wrote before a put is visible to the
- * thread that takes the value. Everything that it wrote before a close is visible to a thread that
- * is answered CLOSED. Only the calls that make a container, _split, _join, _free and the first
- * _finish of a container take or give back memory. Apart from what malloc and free do, no call
- * waits for another thread: it is proved that each returns, and how many steps one with tries makes
- * at most (docs/c-api.md). The inline functions at the end continue until they have another answer
- * than BUSY.
+ * changed but what is said here. Everything that a thread wrote before a put or a push is visible
+ * to the thread that takes or pops the value. Everything that it wrote before a close, or before an
+ * end left, is visible to a thread that is answered CLOSED. Only the calls that make a container,
+ * _split, _join, _free, _spsc_close and the first _finish of a container take or give back memory.
+ * Apart from what malloc and free do, no call waits for another thread: it is proved that each
+ * returns, and how many steps one with tries makes at most (docs/c-api.md). The inline functions at
+ * the end continue until they have another answer than BUSY.
  */
 #ifndef LOCKFREE_H
 #define LOCKFREE_H
@@ -61,12 +63,13 @@ extern "C" {
 enum {
     LOCKFREE_OK = 0,
     LOCKFREE_FULL = 1,          /* put: each cell holds a value or is held by a call; in a ring,
-                                   each slot holds a value */
-    LOCKFREE_EMPTY = 2,         /* take, fold: no value, and more may come. look: it was empty.
-                                   put_range: of no value. finish: nothing is left */
-    LOCKFREE_CLOSED = 3,        /* put: closed. take, fold: no value, and none will come. close: it
-                                   was closed before. gauge: it was closed; value is the same as
-                                   with OK */
+                                   each slot holds a value. spsc_push: no slot was free */
+    LOCKFREE_EMPTY = 2,         /* take, fold, spsc_pop: no value, and more may come. look: it was
+                                   empty. put_range: of no value. finish: nothing is left */
+    LOCKFREE_CLOSED = 3,        /* put: closed. take, fold, spsc_pop: no value, and none will come.
+                                   close: it was closed before. spsc_push: no slot was free, and the
+                                   consumer has left. gauge: it was closed; spsc_room, spsc_size:
+                                   the other end has left; value is the same as with OK */
     LOCKFREE_SHUT = 4,          /* take, fold: shut. shut: it was shut before */
     LOCKFREE_SPENT = 5,         /* a put, also of a range, and a take or a fold of a stack: a tag is
                                    at its limit, 2^42 - 1 or that of _limited; value is the tag. A
@@ -82,16 +85,14 @@ enum {
     LOCKFREE_NO_PASS = 10,      /* split: as many passes are out as may be, 65,535; in a ring, as it
                                    was made for. One that was freed, and not joined, stays out */
     LOCKFREE_BAD_CAPACITY = 11, /* new: a capacity is 1 to 1,048,573. limited: and a limit of tags 2
-                                   to 2^42 - 1. A ring: see lockfree_ring_new */
-    LOCKFREE_OTHER_HANDLE = 12, /* a root instead of a pass, or a pass instead of a root; or a call
-                                   that this container does not have: a fold or a range of a queue
-                                   or a ring, a count of a stack. join: a pass of another
-                                   container */
-    LOCKFREE_NO_HANDLE = 13,    /* the handle is empty: never made, joined, or freed */
-    LOCKFREE_IN_USE = 14,       /* the handle to be made is not empty */
-    LOCKFREE_VALUE = 15,        /* fold: value is the next one, and the fold is under way: continue
-                                   it by lockfree_go_on. finish: value is the next one of what is
-                                   left */
+                                   to 2^42 - 1. A ring: see lockfree_ring_new. spsc_new: it is 0 */
+    LOCKFREE_OTHER_HANDLE = 12, /* a handle of another kind: a root, a pass, a producer, a consumer;
+                                   or a call that its container lacks: a fold or range of a queue or
+                                   a ring, a count of a stack. join: a pass of another container */
+    LOCKFREE_NO_HANDLE = 13,    /* the handle is empty: never made, joined, freed, or spsc_closed */
+    LOCKFREE_IN_USE = 14,       /* a handle to be made is not empty */
+    LOCKFREE_VALUE = 15,        /* fold: value is the next one: continue by lockfree_go_on. finish:
+                                   value is the next one of what is left */
     LOCKFREE_SHARED = 16        /* finish: another handle of the container is still out */
 };
 
@@ -109,7 +110,7 @@ typedef struct lockfree_handle {
  *   number, OK:                the number of the call that ended last
  *   fold, finish, VALUE:       the next value
  *   SPENT:                     the tag
- * It is 0 with any other code. */
+ * It is 0 with any other code. The values of an SPSC ring's calls are said with them. */
 typedef struct lockfree_answer {
     uint64_t value;
     uint32_t code;
@@ -135,10 +136,7 @@ uint32_t lockfree_stack_limited(lockfree_handle *root, uint32_t capacity, uint64
  * values in its life, if each pass ends its calls; then puts are SPENT (or FULL while the slot at
  * the back has its last value), and takes still succeed.
  * _limited: each slot can be filled `laps` times, 1 to 2^41 - 1, else it is BAD_CAPACITY too: for
- * tests of what a program does once a ring is SPENT.
- * So many passes may be out at one time: a pass that was joined makes room for another one, and one
- * that was freed does not.
- * OK, BAD_CAPACITY, NO_MEMORY, IN_USE. */
+ * tests of what a program does once a ring is SPENT. OK, BAD_CAPACITY, NO_MEMORY, IN_USE. */
 uint32_t lockfree_ring_new(lockfree_handle *root, uint32_t capacity, uint32_t passes);
 uint32_t lockfree_ring_limited(lockfree_handle *root, uint32_t capacity, uint64_t laps,
                                uint32_t passes);
@@ -158,11 +156,11 @@ uint32_t lockfree_split(lockfree_handle *root, lockfree_handle *pass);
  * OK, UNDER_WAY, OTHER_HANDLE, NO_HANDLE. */
 uint32_t lockfree_join(lockfree_handle *root, lockfree_handle *pass);
 
-/* Gives up a root or a pass, and empties the handle. A call that is under way ends where it is: its
- * value is out of reach, and its cell stays held. Of a fold, the values that it has not handed out
- * are out of reach, and all of its cells stay held. Of a put_range, all of its values are out of
- * reach, and the cells that it has stay held. The root gives no pass in place of one that is freed:
- * join it for that. OK, NO_HANDLE. */
+/* Gives up a root, a pass or an end, and empties the handle. A call that is under way ends where it
+ * is: its value is out of reach, and its cell stays held. Of a fold, the values that it has not
+ * handed out are out of reach, and all of its cells stay held. Of a put_range, all of its values
+ * are out of reach, and the cells that it has stay held. The root gives no pass in place of one
+ * that is freed: join it for that. OK, NO_HANDLE. */
 uint32_t lockfree_free(lockfree_handle *handle);
 
 /* Ends a container whose root is its only handle, and hands out what is left in it, one value an
@@ -227,6 +225,32 @@ lockfree_answer lockfree_fold(lockfree_handle *pass, bool reversed, uint64_t tri
 lockfree_answer lockfree_put_range(lockfree_handle *pass, const uint64_t *values, size_t count,
                                    uint64_t tries);
 
+/* A new SPSC ring, and its two ends in empty handles. It has exactly this capacity, of any but 0.
+ * OK, BAD_CAPACITY, NO_MEMORY, IN_USE. */
+uint32_t lockfree_spsc_new(lockfree_handle *producer, lockfree_handle *consumer, uint32_t capacity);
+
+/* The calls of its ends, which may also leave by lockfree_free. The last to leave frees the ring;
+ * what is left in it is lost. No array is null. All: OTHER_HANDLE, NO_HANDLE.
+ * push:      OK, FULL, CLOSED
+ * push_many: OK, FULL, CLOSED. Pushes the first values of an array, as many as find a slot: value
+ *            is how many, at least 1 unless count is 0
+ * room:      OK, CLOSED. value is how many slots are free: so many pushes cannot be refused
+ * close:     OK. The producer leaves: its handle is empty, and the consumer pops what is left
+ * pop:       OK, EMPTY, CLOSED. value is the oldest value
+ * pop_many:  OK, EMPTY, CLOSED. Pops the oldest values into an array, as many as there are and fit:
+ *            value as in push_many. The array is unchanged unless it is OK
+ * front:     as pop, but the value stays
+ * size:      OK, CLOSED. value is how many values there are: so many pops cannot be refused */
+lockfree_answer lockfree_spsc_push(lockfree_handle *producer, uint64_t value);
+lockfree_answer lockfree_spsc_push_many(lockfree_handle *producer, const uint64_t *values,
+                                        size_t count);
+lockfree_answer lockfree_spsc_room(lockfree_handle *producer);
+uint32_t lockfree_spsc_close(lockfree_handle *producer);
+lockfree_answer lockfree_spsc_pop(lockfree_handle *consumer);
+lockfree_answer lockfree_spsc_pop_many(lockfree_handle *consumer, uint64_t *values, size_t count);
+lockfree_answer lockfree_spsc_front(lockfree_handle *consumer);
+lockfree_answer lockfree_spsc_size(lockfree_handle *consumer);
+
 /* Under ThreadSanitizer, which does not see the library's atomics, each call tells it what they
  * order: of all containers together, so that it reports no race that is none. It misses a race if
  * calls of another container hide it. */
@@ -256,9 +280,17 @@ static inline lockfree_answer lockfree_heard(lockfree_answer answer)
 #define lockfree_gauge(pass, tries) LOCKFREE_TOLD((lockfree_gauge)(pass, tries))
 #define lockfree_go_on(pass, tries) LOCKFREE_TOLD((lockfree_go_on)(pass, tries))
 #define lockfree_fold(pass, reversed, tries) LOCKFREE_TOLD((lockfree_fold)(pass, reversed, tries))
-#define lockfree_put_range(pass, values, count, tries) \
-    LOCKFREE_TOLD((lockfree_put_range)(pass, values, count, tries))
+#define lockfree_put_range(...) LOCKFREE_TOLD((lockfree_put_range)(__VA_ARGS__))
 #define lockfree_finish(root) LOCKFREE_TOLD((lockfree_finish)(root))
+#define lockfree_free(handle) (__tsan_release(&lockfree_order), (lockfree_free)(handle))
+#define lockfree_spsc_push(end, value) LOCKFREE_TOLD((lockfree_spsc_push)(end, value))
+#define lockfree_spsc_push_many(...) LOCKFREE_TOLD((lockfree_spsc_push_many)(__VA_ARGS__))
+#define lockfree_spsc_room(end) LOCKFREE_TOLD((lockfree_spsc_room)(end))
+#define lockfree_spsc_close(end) (__tsan_release(&lockfree_order), (lockfree_spsc_close)(end))
+#define lockfree_spsc_pop(end) LOCKFREE_TOLD((lockfree_spsc_pop)(end))
+#define lockfree_spsc_pop_many(...) LOCKFREE_TOLD((lockfree_spsc_pop_many)(__VA_ARGS__))
+#define lockfree_spsc_front(end) LOCKFREE_TOLD((lockfree_spsc_front)(end))
+#define lockfree_spsc_size(end) LOCKFREE_TOLD((lockfree_spsc_size)(end))
 #endif
 
 /* Continues a call until there is another answer than BUSY. */

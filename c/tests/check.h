@@ -13,13 +13,15 @@
         }                                                                    \
     } while (0)
 
-/* The Nth allocation from now is refused; 0: none is (linked with --wrap). */
+/* The Nth allocation from now is refused; 0: none is (linked with --wrap). And those of more bytes than `granted` are. */
 static long refused = 0;
+static size_t granted = (size_t)-1;
+static int refuses(size_t size) { return size > granted || (refused > 0 && --refused == 0); }
 void *__real_malloc(size_t size);
 void *__real_realloc(void *at, size_t size);
 void *__wrap_malloc(size_t size);
 void *__wrap_realloc(void *at, size_t size);
-void *__wrap_malloc(size_t size) { return refused > 0 && --refused == 0 ? NULL : __real_malloc(size); }
-void *__wrap_realloc(void *at, size_t size) { return refused > 0 && --refused == 0 ? NULL : __real_realloc(at, size); }
+void *__wrap_malloc(size_t size) { return refuses(size) ? NULL : __real_malloc(size); }
+void *__wrap_realloc(void *at, size_t size) { return refuses(size) ? NULL : __real_realloc(at, size); }
 
 #endif
