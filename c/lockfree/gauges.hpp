@@ -44,7 +44,7 @@ public:
         return answer(what, to, what != status::ok);
     }
     /// How many values a queue or a ring held at one moment of the call, 0 to its capacity. It
-    /// begins anew while others pop. How many a stack holds, exactly if nobody calls meanwhile:
+    /// begins again while others pop. How many a stack holds, exactly if nobody calls meanwhile:
     /// else calls that are under way may count or not. It looks at each pass that was ever out at a
     /// time.
     std::size_t size() { return answered<std::size_t>(&gauges::try_size); }
