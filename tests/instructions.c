@@ -1,8 +1,9 @@
 /* Makes one call of the library for C again and again on one thread, so that tests/instructions can count its instructions.
  *
  * usage: instructions KIND CALLS FILL TIMES
- *   KIND   stack, queue or ring, with room for 4,096 values
- *   CALLS  pair (a put and a take in turn; of a full container a take and a put), put, take or look
+ *   KIND   stack, queue, ring or spsc, with room for 4,096 values
+ *   CALLS  pair (a put and a take in turn; of a full container a take and a put), put, take or look; of spsc no look, but
+ *          arrays (a push and a pop of 16 values in turn)
  *   FILL   empty, half or full: how many values are in it before
  * The status is 0 if each call was answered as it is on such a container: a put of a full one and a take of an empty one are
  * refused, and the others succeed. */
@@ -13,7 +14,7 @@
 #include <stdlib.h>
 #include <string.h>
 
-enum { CAPACITY = 4096, PASSES = 4 };
+enum { CAPACITY = 4096, PASSES = 4, ARRAY = 16 };
 
 static const uint64_t TRIES = 1000000;
 
@@ -74,6 +75,63 @@ static bool repeated(lockfree_handle *pass, const char *calls, uint64_t count, u
     return right;
 }
 
+static bool pushed(lockfree_handle *producer, uint64_t value, uint32_t code)
+{
+    return lockfree_spsc_push(producer, value).code == code;
+}
+
+static bool popped(lockfree_handle *consumer, uint32_t code)
+{
+    return lockfree_spsc_pop(consumer).code == code;
+}
+
+static bool array_passed(lockfree_handle *producer, lockfree_handle *consumer)
+{
+    static const uint64_t given[ARRAY] = {1};
+    uint64_t got[ARRAY];
+    return lockfree_spsc_push_many(producer, given, ARRAY).value == ARRAY
+        && lockfree_spsc_pop_many(consumer, got, ARRAY).value == ARRAY;
+}
+
+/* The same by the two ends of an SPSC ring. */
+static bool repeated_by_ends(lockfree_handle *producer, lockfree_handle *consumer, const char *calls, uint64_t count,
+                             uint64_t times)
+{
+    const bool is_full = count == CAPACITY;
+    bool right = true;
+    for (uint64_t value = 0; value < count; value++)
+        right &= pushed(producer, value, LOCKFREE_OK);
+    if (strcmp(calls, "pair") == 0 && is_full)
+        for (uint64_t i = 0; i < times; i++)
+            right &= popped(consumer, LOCKFREE_OK) && pushed(producer, i, LOCKFREE_OK);
+    else if (strcmp(calls, "pair") == 0)
+        for (uint64_t i = 0; i < times; i++)
+            right &= pushed(producer, i, LOCKFREE_OK) && popped(consumer, LOCKFREE_OK);
+    else if (strcmp(calls, "arrays") == 0)
+        for (uint64_t i = 0; i < times; i++)
+            right &= array_passed(producer, consumer);
+    else if (strcmp(calls, "put") == 0 && is_full)
+        for (uint64_t i = 0; i < times; i++)
+            right &= pushed(producer, i, LOCKFREE_FULL);
+    else if (strcmp(calls, "take") == 0 && count == 0)
+        for (uint64_t i = 0; i < times; i++)
+            right &= popped(consumer, LOCKFREE_EMPTY);
+    else
+        right = false;
+    return right;
+}
+
+static int spsc(const char *calls, uint64_t count, uint64_t times)
+{
+    lockfree_handle producer = {0}, consumer = {0};
+    if (lockfree_spsc_new(&producer, &consumer, CAPACITY) != LOCKFREE_OK)
+        return 1;
+    const bool right = repeated_by_ends(&producer, &consumer, calls, count, times);
+    lockfree_free(&producer);
+    lockfree_free(&consumer);
+    return right ? 0 : 1;
+}
+
 int main(int words, char **word)
 {
     if (words != 5) {
@@ -83,9 +141,12 @@ int main(int words, char **word)
     lockfree_handle root = {0}, pass = {0};
     const uint64_t half = strcmp(word[3], "half") == 0 ? CAPACITY / 2 : 0;
     const uint64_t count = strcmp(word[3], "full") == 0 ? CAPACITY : half;
+    const uint64_t times = strtoull(word[4], NULL, 10);
+    if (strcmp(word[1], "spsc") == 0)
+        return spsc(word[2], count, times);
     if (made(&root, word[1]) != LOCKFREE_OK || lockfree_split(&root, &pass) != LOCKFREE_OK)
         return 1;
-    const bool right = filled(&pass, count) && repeated(&pass, word[2], count, strtoull(word[4], NULL, 10));
+    const bool right = filled(&pass, count) && repeated(&pass, word[2], count, times);
     lockfree_free(&pass);
     lockfree_free(&root);
     return right ? 0 : 1;

@@ -2,8 +2,8 @@
 // count its instructions and stores.
 //
 // usage: instructions KIND BY CALLS TIMES
-//   KIND   stack, queue or ring, with room for 4,096 values
-//   BY     container, or pass: one of split()
+//   KIND   stack, queue, ring or spsc, with room for 4,096 values
+//   BY     container, or pass: one of split(); of spsc the container alone
 //   CALLS  pair (a push and a pop in turn, of an empty container), refused-push (of a full one),
 //          refused-pop (of an empty one), or pair-of-16-bytes (values that lie in cells)
 //   TIMES  how often; 0 makes what a run makes once
@@ -78,7 +78,18 @@ bool made_and_called(bool by_pass, const char *calls, std::uint64_t times) {
     return by_pass ? repeated(pass, calls, times) : repeated(container, calls, times);
 }
 
+/// The same of an spsc_queue, which has no passes.
+bool spsc_called(const char *calls, std::uint64_t times) {
+    if (std::strcmp(calls, "pair-of-16-bytes") == 0) {
+        lockfree::spsc_queue<two_words, lockfree::capacity<room>> queue;
+        return pairs_of_two_words(queue, times);
+    }
+    lockfree::spsc_queue<std::uint64_t, lockfree::capacity<room>> queue;
+    return repeated(queue, calls, times);
+}
+
 bool called(const char *kind, bool by_pass, const char *calls, std::uint64_t times) {
+    if (std::strcmp(kind, "spsc") == 0) return !by_pass && spsc_called(calls, times);
     if (std::strcmp(kind, "stack") == 0)
         return made_and_called<lockfree::stack>(by_pass, calls, times);
     if (std::strcmp(kind, "queue") == 0)
