@@ -270,8 +270,8 @@ pub(crate) fn word_in_a_box<T>(value: T) -> Word {
 /// As of [`Hand::value`].
 pub(crate) unsafe fn read<T>(word: Word) -> (T, Link<T>) {
     if Cells::<T>::ARE_WORDS {
-        // SAFETY: the word's first bytes are the value's, by `word_of_bytes`.
-        return (unsafe { ptr::read(word.as_ptr().cast()) }, None);
+        // SAFETY: `word_of_bytes` made the word, and the value is read once.
+        return (unsafe { value_of_bytes(word) }, None);
     }
     // SAFETY: the word is an address, which is set.
     let word = unsafe { word.assume_init() };
@@ -286,11 +286,24 @@ pub(crate) unsafe fn read<T>(word: Word) -> (T, Link<T>) {
     (unsafe { ptr::read(at.cast()) }, NonNull::new(at))
 }
 
-fn word_of_bytes<T>(value: T) -> Word {
+/// Makes a value a word, which it fits (`ARE_WORDS`).
+#[inline]
+pub(crate) fn word_of_bytes<T>(value: T) -> Word {
     let mut word = Word::zeroed();
     // SAFETY: the value is no longer than a word, and no stricter aligned.
     unsafe { word.as_mut_ptr().cast::<T>().write(value) };
     word
+}
+
+/// Makes it a value again.
+///
+/// # Safety
+///
+/// `word_of_bytes` made the word of a `T`, and of its copies one at most is made a value that is used.
+#[inline]
+pub(crate) unsafe fn value_of_bytes<T>(word: Word) -> T {
+    // SAFETY: the word's first bytes are the value's.
+    unsafe { ptr::read(word.as_ptr().cast()) }
 }
 
 #[cfg(test)]

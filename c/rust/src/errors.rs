@@ -17,7 +17,8 @@ use std::fmt;
 pub enum PushError<T> {
     /// Each place holds a value, or is held by a call under way; there may be room later.
     Full(T),
-    /// The container was closed: it takes no value any more.
+    /// The container was closed: it takes no value any more. Of a [`Producer`](crate::Producer): no slot is free, and the
+    /// consumer has left.
     Closed(T),
     /// A tag is at its limit: the container takes no value any more. See [`Pass::wear`](crate::Pass::wear).
     Spent(T),
@@ -98,7 +99,7 @@ impl<T> Error for PushError<T> {}
 pub enum PopError {
     /// There is none; one may come.
     Empty,
-    /// There is none, and none will come: the container was closed.
+    /// There is none, and none will come: the container was closed, or the producer of [`spsc`](crate::spsc()) has left.
     Closed,
     /// The container was shut: it gives no value any more.
     Shut,
@@ -147,7 +148,7 @@ pub enum MakeError {
     NoMemory,
     /// As many passes of the container are out as there may be: 65,534, and in a ring as many as it was made for.
     NoPass,
-    /// A capacity is 1 to 1,048,573; in a ring with its passes at most 1,048,574.
+    /// A capacity is 1 to 1,048,573; in a ring with its passes at most 1,048,574; of [`spsc`](crate::spsc()) any but 0.
     BadCapacity,
     /// A tag limit is 2 to 2^42 - 1, a lap limit 1 to 2^41 - 1, and a ring's passes are 1 to 65,534.
     BadLimit,
@@ -160,7 +161,9 @@ impl fmt::Display for MakeError {
         to.write_str(match self {
             MakeError::NoMemory => "there is no memory",
             MakeError::NoPass => "all passes of the container are out",
-            MakeError::BadCapacity => "a capacity is 1 to 1,048,573, and in a ring with its passes at most 1,048,574",
+            MakeError::BadCapacity => {
+                "a capacity is 1 to 1,048,573, in a ring with its passes at most 1,048,574, and of spsc any but 0"
+            }
             MakeError::BadLimit => {
                 "a tag limit is 2 to 2^42 - 1, a lap limit 1 to 2^41 - 1, and a ring's passes are 1 to 65,534"
             }

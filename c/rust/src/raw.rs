@@ -1,5 +1,5 @@
-//! The calls of `lockfree.h`, as safe methods of a root and of a pass. The library answers each misuse of a handle by a
-//! code; what a word means is the business of who calls.
+//! The calls of `lockfree.h`, as safe methods of a root and of a pass; `ends` has those of a ring for one producer and
+//! one consumer. The library answers each misuse of a handle by a code; what a word means is the business of who calls.
 use crate::MakeError;
 use std::mem::MaybeUninit;
 use std::ptr;
@@ -12,16 +12,16 @@ const VERSION: u32 = 200;
 
 /// `lockfree_handle`: no bytes set is an empty one.
 #[repr(C)]
-struct Handle {
+pub(crate) struct Handle {
     at: *mut u8,
     full: bool,
 }
 
 /// `lockfree_answer`.
 #[repr(C)]
-struct Answer {
-    value: Word,
-    code: Code,
+pub(crate) struct Answer {
+    pub(crate) value: Word,
+    pub(crate) code: Code,
 }
 
 /// A code of `lockfree.h`. One that is not named here is one more code, and no fault.
@@ -41,7 +41,7 @@ impl Code {
     const BAD_CAPACITY: Code = Code(11);
     const VALUE: Code = Code(15);
 
-    fn made(self) -> Result<(), MakeError> {
+    pub(crate) fn made(self) -> Result<(), MakeError> {
         match self {
             Code::OK => Ok(()),
             Code::BAD_CAPACITY => Err(MakeError::BadCapacity),
@@ -74,7 +74,7 @@ extern "C" {
 }
 
 impl Handle {
-    const fn empty() -> Handle {
+    pub(crate) const fn empty() -> Handle {
         Handle { at: ptr::null_mut(), full: false }
     }
 }
@@ -86,13 +86,25 @@ impl Drop for Handle {
     }
 }
 
-// SAFETY: behind a handle are a share of the container, which threads share, and a root or a pass, which crosses threads.
+// SAFETY: behind a handle are a share of the container, which threads share, and a root, a pass or an end, which crosses
+// threads.
 unsafe impl Send for Handle {}
 
 impl Answer {
-    fn number(&self) -> u64 {
+    pub(crate) fn number(&self) -> u64 {
         // SAFETY: the library sets the whole word, but for a value's, and nobody asks for the number of that.
         unsafe { self.value.assume_init() }
+    }
+}
+
+/// Whether the library has the calls that are declared here.
+pub(crate) fn compare_versions() -> Result<(), MakeError> {
+    // SAFETY: it only returns a number. A patch changes no call, so it is not compared.
+    let linked = unsafe { lockfree_version() };
+    if linked / 100 == VERSION / 100 {
+        Ok(())
+    } else {
+        Err(MakeError::OtherVersion)
     }
 }
 
@@ -113,10 +125,7 @@ impl Root {
     }
 
     pub(crate) fn new(kind: Kind, capacity: u32) -> Result<Root, MakeError> {
-        // SAFETY: it only returns a number. A patch changes no call, so it is not compared.
-        if unsafe { lockfree_version() } / 100 != VERSION / 100 {
-            return Err(MakeError::OtherVersion);
-        }
+        compare_versions()?;
         let mut root = Root::none();
         // SAFETY: the handle is empty, and this call's alone.
         let code = unsafe {

@@ -5,8 +5,8 @@ use std::sync::atomic::{AtomicBool, Ordering};
 use std::thread::{sleep, yield_now};
 use std::time::{Duration, Instant};
 
-/// What ends the wait of [`push_wait`](crate::Pass::push_wait) and [`pop_wait`](crate::Pass::pop_wait), while there is no
-/// room or no value:
+/// What ends the wait of [`push_wait`](crate::Pass::push_wait) and [`pop_wait`](crate::Pass::pop_wait), also those of a
+/// [`Producer`](crate::Producer) and a [`Consumer`](crate::Consumer), while there is no room or no value:
 ///
 /// - `None`: nothing does
 /// - a [`Duration`]: that much time since the call was refused for the first time
@@ -117,11 +117,11 @@ impl<S: Stop> Waiting<S> {
 }
 
 /// Pushes by `push` until it is not refused as full, or the stop ends the wait.
-pub(crate) fn push_until<T>(
+pub(crate) fn push_until<T, R>(
     value: T,
     stop: impl Stop,
-    mut push: impl FnMut(T) -> Result<u64, PushError<T>>,
-) -> Result<u64, PushError<T>> {
+    mut push: impl FnMut(T) -> Result<R, PushError<T>>,
+) -> Result<R, PushError<T>> {
     let mut waiting = Waiting::until(stop);
     let mut value = value;
     loop {

@@ -1,6 +1,6 @@
 //! Many containers, and threads that come and go: what they take, they give back. The crate and the library both ask for
 //! memory by `malloc`, and give it back by `free`, which count the blocks that are out.
-use lockfree::{Queue, Ring, Stack};
+use lockfree::{spsc, Queue, Ring, Stack};
 use std::ffi::c_void;
 use std::sync::atomic::{AtomicIsize, Ordering};
 
@@ -87,6 +87,25 @@ fn in_one_thread() {
     drop((rings, passes, queues, stacks));
 }
 
+/// Rings for one producer and one consumer, whose ends leave in each order, with values in them.
+fn ends_that_leave() {
+    for round in 0..1_000 {
+        let (mut producer, mut consumer) = spsc(3).unwrap();
+        for at in 0..9 {
+            assert!(producer.push(format!("round {round}, {at}")).is_ok());
+            assert!(at < 2 || consumer.pop().is_ok());
+        }
+        let thread = std::thread::spawn(move || drop(producer));
+        if round % 2 == 0 {
+            thread.join().unwrap();
+            drop(consumer);
+        } else {
+            drop(consumer);
+            thread.join().unwrap();
+        }
+    }
+}
+
 /// Threads that call four containers, and end.
 fn threads_that_come_and_go() {
     let (queue, stack, ring) = (Queue::new(9).unwrap(), Stack::new(9).unwrap(), Ring::with_passes(9, 3).unwrap());
@@ -114,5 +133,6 @@ fn what_is_taken_is_given_back() {
     let mut kept = Vec::with_capacity(9);
     assert_eq!(left_by(8, || kept.push(Box::new(7))), 8);
     assert_eq!(left_by(2, in_one_thread), 0);
+    assert_eq!(left_by(2, ends_that_leave), 0);
     assert_eq!(left_by(20, threads_that_come_and_go), 0);
 }

@@ -1,82 +1,9 @@
 //! A first call for which there is no memory costs nothing for ever: once there is memory, as many passes can be had as if
-//! nothing had been refused. Here the crate and the library both ask for memory by `malloc`, and it refuses on demand.
+//! nothing had been refused.
+mod refusing;
+
 use lockfree::{MakeError, Pass, Queue, Ring, Stack};
-use std::alloc::{GlobalAlloc, Layout, System};
-use std::cell::Cell;
-use std::ffi::c_void;
-use std::ptr::null_mut;
-
-thread_local! {
-    /// How many more times this thread gets memory before it is refused once; none while it always does.
-    static LEFT: Cell<Option<u32>> = const { Cell::new(None) };
-    /// Whether it was refused.
-    static REFUSED: Cell<bool> = const { Cell::new(false) };
-}
-
-fn refuses() -> bool {
-    match LEFT.get() {
-        Some(0) => {
-            LEFT.set(None);
-            REFUSED.set(true);
-            true
-        }
-        left => {
-            LEFT.set(left.map(|left| left - 1));
-            false
-        }
-    }
-}
-
-extern "C" {
-    fn __libc_malloc(size: usize) -> *mut c_void;
-    fn __libc_realloc(at: *mut c_void, size: usize) -> *mut c_void;
-}
-
-/// The library's calls come here, and those of the C library.
-#[no_mangle]
-unsafe extern "C" fn malloc(size: usize) -> *mut c_void {
-    if refuses() {
-        return null_mut();
-    }
-    unsafe { __libc_malloc(size) }
-}
-
-#[no_mangle]
-unsafe extern "C" fn realloc(at: *mut c_void, size: usize) -> *mut c_void {
-    if refuses() {
-        return null_mut();
-    }
-    unsafe { __libc_realloc(at, size) }
-}
-
-/// The crate's calls, also those for memory of a large alignment, which do not come by `malloc`.
-struct Refusing;
-
-// SAFETY: all is done by the system's allocator, or nothing.
-unsafe impl GlobalAlloc for Refusing {
-    unsafe fn alloc(&self, layout: Layout) -> *mut u8 {
-        if layout.align() > 16 && refuses() {
-            return null_mut();
-        }
-        unsafe { System.alloc(layout) }
-    }
-
-    unsafe fn dealloc(&self, at: *mut u8, layout: Layout) {
-        unsafe { System.dealloc(at, layout) }
-    }
-}
-
-#[global_allocator]
-static ALLOCATOR: Refusing = Refusing;
-
-/// Makes a call whose memory is refused after that many times. Whether it was.
-fn refused<R>(after: u32, call: impl FnOnce() -> R) -> (R, bool) {
-    REFUSED.set(false);
-    LEFT.set(Some(after));
-    let answer = call();
-    LEFT.set(None);
-    (answer, REFUSED.get())
-}
+use refusing::refused;
 
 /// A pass that is had after each piece of its memory was refused once, and how often that was.
 fn pass_at_last<T, K>(pass: impl Fn() -> Result<Pass<T, K>, MakeError>) -> (Pass<T, K>, u32) {
