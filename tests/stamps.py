@@ -4,8 +4,10 @@ A stamp, crates/NAME/wrong/stamp, has two digests. `own` is of the crate's src/ 
 may let a wrong body pass. `below` is of the statements of the crates below it: their specs/, and their src/ without the
 bodies of functions, since a proof never looks into the body of a function that it calls. Proofs and lines that are only a
 comment change neither digest. A body is found by the layout that rt fmt gives, so one with another layout is part of the
-digest: then a stamp is stale too often, never too seldom."""
+digest: then a stamp is stale too often, never too seldom. A name that is imported counts by the crate that defines it; the
+file counts too if the crate has more than one definition of that name. So a definition may move to another file of its crate."""
 
+import functools
 import glob
 import hashlib
 import os
@@ -14,6 +16,10 @@ import re
 TOP = os.path.dirname(os.path.dirname(os.path.abspath(__file__)))
 ABOUT = "# On this text every edit in this folder was refused (tests/wrong-bodies --stamped)."
 COMMENT = re.compile(r"^\s*(?://|--).*\n?", re.M)
+IMPORT = r"[ \t]*(?:ghost )?use Rattle\.\w+\.specs\.[\w.]+\.\{[^{}]*\};?[ \t]*\n"
+IMPORTS = re.compile(rf"^(?:{IMPORT})+", re.M)
+PARTS = re.compile(r"use (Rattle\.(\w+)\.specs)\.([\w.]+)\.\{([^{}]*)\}")
+DEFINED = re.compile(r"^\s*(?:abbrev pub|pub record|pub data|pub) ([\w◌+∷≡'-]+)", re.M)
 FUNCTION = re.compile(r"^( *)(?:pub(?:\(\w+\))? |const |unsafe |extern \"\w+\" )*fn \w+")
 
 
@@ -26,6 +32,28 @@ def files(crate, *kinds):
 def read(path):
     with open(path, encoding="utf-8") as file:
         return file.read() if path.endswith(".edit") else COMMENT.sub("", file.read())
+
+
+@functools.lru_cache(maxsize=None)
+def definitions(crate):
+    """How many files of specs/ define each name."""
+    count = {}
+    for path in files(crate, "specs"):
+        for name in {it for it in DEFINED.findall(read(path)) if it != "use"}:
+            count[name] = count.get(name, 0) + 1
+    return count
+
+
+def with_imports_by_crate(text):
+    """The text with each block of imports as a list of names, each with its crate, or with its file if that says which one is meant."""
+    def listed(block):
+        found = set()
+        for specs, crate, file, names in PARTS.findall(block[0]):
+            for name in filter(None, (it.strip() for it in names.split(","))):
+                is_one = definitions(crate).get(name.split(" as ")[0]) == 1
+                found.add(f"{specs} {name}" if is_one else f"{specs}.{file} {name}")
+        return "".join(f"{it}\n" for it in sorted(found))
+    return IMPORTS.sub(listed, text)
 
 
 def without_bodies(code):
@@ -63,7 +91,8 @@ def digest(parts):
 def digests(crate, below):
     """Both digests of a crate as it is, above these crates."""
     statements = [(it, without_bodies(read(it)) if it.endswith(".rt") else read(it)) for name in sorted(below) for it in files(name, "src", "specs")]
-    return {"own": digest((it, read(it)) for it in files(crate, "src", "specs", "wrong")), "below": digest(statements)}
+    own = [(it, with_imports_by_crate(read(it))) for it in files(crate, "src", "specs", "wrong")]
+    return {"own": digest(own), "below": digest((it, with_imports_by_crate(text)) for it, text in statements)}
 
 
 def path_of(crate):
