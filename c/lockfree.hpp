@@ -1,7 +1,9 @@
-// A bounded queue, a bounded stack and a ring for C++17. They call the functions of lockfree.h,
-// which are proved; these headers are tested. A call that Boost.Lockfree has too has its name, and
-// its meaning unless its comment says otherwise. A program for Boost's containers switches in three
-// steps, by lockfree_boost.hpp: docs/cpp.md, "Moving from Boost".
+// A bounded queue, a bounded stack and a ring, and a queue for one producer and one consumer, for
+// C++17. They call the functions of lockfree.h, which are proved; these headers are tested. A call
+// that Boost.Lockfree has too has its name, and its meaning unless its comment says otherwise. A
+// program for Boost's containers switches in three steps, by lockfree_boost.hpp: docs/cpp.md,
+// "Moving from Boost". What follows is said of the first three; lockfree/spsc_calls.hpp and
+// lockfree/spsc.hpp say what the fourth one, spsc_queue, does.
 //
 //     lockfree::queue<T, lockfree::capacity<128>> queue;           // or with a capacity from now:
 //     lockfree::queue<T, lockfree::fixed_sized<true>> queue(128);   // = lockfree::bounded_queue<T>
@@ -43,6 +45,7 @@
 #if __cplusplus >= 201703L
 #include "lockfree.h"
 #include "lockfree/containers.hpp"
+#include "lockfree/spsc.hpp"
 
 #define LOCKFREE_VERSION 200  // 0.2.0
 

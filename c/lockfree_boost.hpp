@@ -1,18 +1,22 @@
-// boost::lockfree's queue and stack, made of the proved ones, instead of <boost/lockfree/queue.hpp>
-// and stack.hpp, which are empty if they are included after it. docs/cpp.md, "Moving from Boost",
-// has the three steps, and what differs though it compiles: above all `while (!queue.push(x));`,
-// which does not end if the queue is closed or spent. Write push_wait.
+// boost::lockfree's queue, stack and spsc_queue, made of the proved ones, instead of
+// <boost/lockfree/queue.hpp>, stack.hpp and spsc_queue.hpp, which are empty if they are included
+// after it. docs/cpp.md, "Moving from Boost", has the three steps, and what differs though it
+// compiles: above all `while (!queue.push(x));`, which does not end if the queue is closed or spent.
+// Write push_wait.
 //
 // What cannot be had here is refused when it is compiled, with the reason: containers that grow,
 // allocators, reserve, options that are not known or are given twice. Boost's other headers go with
-// it, before or after: its spsc_queue and its policies, which are used here if Boost is there.
+// it, before or after: its policies, which are used here if Boost is there.
 #pragma once
 
-#if defined(BOOST_LOCKFREE_FIFO_HPP_INCLUDED) || defined(BOOST_LOCKFREE_STACK_HPP_INCLUDED)
-#error "lockfree_boost.hpp: Boost's own queue or stack is included already: include this instead"
+#if defined(BOOST_LOCKFREE_FIFO_HPP_INCLUDED) || defined(BOOST_LOCKFREE_STACK_HPP_INCLUDED) || \
+    defined(BOOST_LOCKFREE_SPSC_QUEUE_HPP_INCLUDED)
+#error "lockfree_boost.hpp: Boost's own queue, stack or spsc_queue is included already: \
+include this instead"
 #else
 #define BOOST_LOCKFREE_FIFO_HPP_INCLUDED
 #define BOOST_LOCKFREE_STACK_HPP_INCLUDED
+#define BOOST_LOCKFREE_SPSC_QUEUE_HPP_INCLUDED
 
 #include "lockfree.hpp"
 #if __cplusplus >= 201703L
@@ -80,15 +84,17 @@ public:
     std::optional<T> pop(uses_optional_t) { return base::pop(); }
 };
 
-#if !__has_include(<boost/lockfree/spsc_queue.hpp>)
-/// Boost's queue of one producer and one consumer.
-template <class T, class... Options> class spsc_queue {
-    static_assert(::lockfree::detail::never_compiled<T>,
-                  "lockfree: spsc_queue is not here: take queue, which any number of threads may "
-                  "call, or Boost's own, "
-                  "whose header may be included beside this one");
+template <class T, class... Options> class spsc_queue
+    : public ::lockfree::spsc_queue<T, Options...> {
+    using base = ::lockfree::spsc_queue<T, Options...>;
+
+public:
+    using base::base;
+    using base::pop;
+    /// Boost's: destroys the oldest value. Whether there was one.
+    bool pop() { return base::consume_one([](T &) {}); }
+    std::optional<T> pop(uses_optional_t) { return base::pop(); }
 };
-#endif
 
 }  // namespace lockfree
 }  // namespace boost

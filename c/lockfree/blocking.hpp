@@ -368,6 +368,7 @@ template <class Container> class blocking
 public:
     using value_type = typename Container::value_type;
     using limits = typename Container::limits;
+    using opened = typename Container::opened;
     using pass = detail::blocking_pass<Container>;
 
     /// The constructors of the container, which also throw std::bad_alloc if there is no memory for
@@ -382,8 +383,8 @@ public:
                                        std::is_constructible_v<Container, First, More...>>>
     explicit blocking(First limit, More... more)
         : inner(limit, more...), all(new detail::waiters) {}
-    explicit blocking(detail::adopted by_make) noexcept
-        : inner(by_make), all(new (std::nothrow) detail::waiters) {}
+    explicit blocking(detail::adopted<opened> by_make) noexcept
+        : inner(std::move(by_make)), all(new (std::nothrow) detail::waiters) {}
     blocking(const blocking &) = delete;
     blocking &operator=(const blocking &) = delete;
 
@@ -406,9 +407,10 @@ private:
     detail::share_of_waiters all;
 
     template <class... Room>
-    static std::uint32_t make_core(detail::core *&to, Room... room) noexcept {
+    static std::uint32_t make_core(opened &to, Room... room) noexcept {
         return Container::make_core(to, room...);
     }
+    static void drop(opened &made) noexcept { Container::drop(made); }
     bool is_made() const noexcept { return static_cast<bool>(all); }
     Container &calls_of() noexcept { return inner; }
     const detail::share_of_waiters &all_waiters() noexcept { return all; }

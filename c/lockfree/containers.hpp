@@ -91,9 +91,9 @@ template <class Alloc> inline constexpr bool
     is_allocator<Alloc, std::void_t<decltype(std::declval<Alloc &>().allocate(std::size_t{1}))>> =
         true;
 
-/// A core that is a container's from now on.
-struct adopted {
-    core *from;
+/// What `make` has opened, and is a container's from now on.
+template <class Opened> struct adopted {
+    Opened from;
 };
 
 template <class T, kind K, class... Options> class container
@@ -105,31 +105,34 @@ template <class T, kind K, class... Options> class container
         "lockfree: values are of an object type, with no const or volatile, and no array");
     static_assert(std::is_nothrow_destructible_v<T>,
                   "lockfree: the destructor of a value throws nothing");
+    static_assert(!given::sizes || (given::size >= 1 && given::size <= 1048573),
+                  "lockfree: a capacity is 1 to 1,048,573");
     using base = all_calls<container, T, K>;
-    static constexpr bool sized = given::size != 0;
+    static constexpr bool sized = given::sizes;
 
 public:
     using value_type = T;
     using size_type = std::size_t;
     using pass = pass_of<T, K>;
     using limits = detail::limits<K>;
+    using opened = core *;
 
     /// With capacity<N>. Takes all memory that pushes and pops need, whatever T is, but for a
     /// thread's first call and what cells.hpp names. std::bad_alloc, std::logic_error, and of
     /// limits std::invalid_argument.
     template <bool Sized = sized, class = std::enable_if_t<Sized>> container()
-        : container(adopted{made(given::size, limits())}) {}
+        : container(adopted<opened>{made(given::size, limits())}) {}
     template <class First, class... More, bool Sized = sized,
               class = std::enable_if_t<Sized && are_limits<K, First, More...>>>
     explicit container(First limit, More... more)
-        : container(adopted{made(given::size, limits(limit, more...))}) {}
+        : container(adopted<opened>{made(given::size, limits(limit, more...))}) {}
     /// With fixed_sized<true>, and a ring without capacity<N>. Room for 1 to 1,048,573 values, of a
     /// ring with the usual passes for at most 1,048,318. std::bad_alloc, std::invalid_argument,
     /// std::logic_error.
     template <class... Limits, bool Sized = sized,
               class = std::enable_if_t<!Sized && are_limits<K, Limits...>>>
     explicit container(size_type room, Limits... most)
-        : container(adopted{made(room, limits(most...))}) {
+        : container(adopted<opened>{made(room, limits(most...))}) {
         static_assert(given::fixed || Sized || K == kind::ring,
                       "lockfree: Boost's container of a size without fixed_sized<true> grows, and "
                       "none here does: "
@@ -137,18 +140,14 @@ public:
     }
     /// Boost's with an allocator, and refused when compiled.
     template <class Alloc, class = std::enable_if_t<is_allocator<Alloc>>>
-    explicit container(const Alloc &) : container(adopted{nullptr}) {
-        static_assert(
-            never_compiled<Alloc>,
-            "lockfree: no container here takes an allocator: its constructor takes all memory");
+    explicit container(const Alloc &) : container(adopted<opened>{nullptr}) {
+        static_assert(never_compiled<Alloc>, LOCKFREE_NO_ALLOCATOR);
     }
     template <class Alloc, class = std::enable_if_t<is_allocator<Alloc>>>
-    container(size_type, const Alloc &) : container(adopted{nullptr}) {
-        static_assert(
-            never_compiled<Alloc>,
-            "lockfree: no container here takes an allocator: its constructor takes all memory");
+    container(size_type, const Alloc &) : container(adopted<opened>{nullptr}) {
+        static_assert(never_compiled<Alloc>, LOCKFREE_NO_ALLOCATOR);
     }
-    explicit container(adopted by_make) noexcept : of(by_make.from), home(home_of(of)) {}
+    explicit container(adopted<opened> by_make) noexcept : of(by_make.from), home(home_of(of)) {}
     container(const container &) = delete;
     container &operator=(const container &) = delete;
     /// No thread calls any more but by passes of `split`. All values that are left end, whoever
@@ -249,6 +248,7 @@ private:
     const std::size_t home;
 
     bool is_made() const noexcept { return true; }
+    static void drop(core *made) noexcept { drop_user<T>(*made); }
 
     static std::uint32_t make_core(core *&to, size_type room, limits most) noexcept {
         return core::make(room, layout_of<T>(), most, to);
@@ -283,10 +283,12 @@ private:
 
 /// A container of a core that is made for it, or null.
 template <class Container, class... Room> std::unique_ptr<Container> make(Room... room) noexcept {
-    core *of = nullptr;
+    using opened = typename Container::opened;
+    opened of{};
     if (Container::make_core(of, room...) != LOCKFREE_OK) return nullptr;
-    std::unique_ptr<Container> made(new (std::nothrow) Container(adopted{of}));
-    if (!made) drop_user<typename Container::value_type>(*of);
+    std::unique_ptr<Container> made(new (std::nothrow)
+                                        Container(adopted<opened>{std::move(of)}));
+    if (!made) Container::drop(of);
     else if (!made->is_made()) made.reset();
     return made;
 }

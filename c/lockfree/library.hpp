@@ -59,6 +59,12 @@ inline lockfree_answer defined(lockfree_answer answer) noexcept {
 #endif
     return answer;
 }
+/// The same of an array that the library has written.
+inline void written([[maybe_unused]] const void *at, [[maybe_unused]] std::size_t size) noexcept {
+#ifdef LOCKFREE_UNDER_MSAN
+    __msan_unpoison(at, size);
+#endif
+}
 
 /// A root or a pass, freed when it ends. An empty one is all zero.
 struct handle : lockfree_handle {

@@ -11,7 +11,8 @@
 namespace lockfree {
 inline namespace LOCKFREE_NAMES {
 
-/// The capacity, 1 to 1,048,573, known when it is compiled. Implies fixed_sized<true>.
+/// The capacity, 1 to 1,048,573, of an spsc_queue 1 to 4,294,967,295, known when it is compiled.
+/// Implies fixed_sized<true>.
 template <std::size_t N> struct capacity {};
 /// fixed_sized<true>: the capacity is given to the constructor. fixed_sized<false> is refused: no
 /// container here grows.
@@ -45,6 +46,9 @@ struct lap_limit {
     std::uint64_t most;
 };
 
+#define LOCKFREE_NO_ALLOCATOR \
+    "lockfree: no container here takes an allocator: its constructor takes all memory"
+
 namespace detail {
 
 enum class kind { queue, stack, ring };
@@ -69,6 +73,8 @@ template <> struct limits<kind::ring> {
     explicit constexpr limits(lap_limit laps, pass_limit of_passes = {usual_passes}) noexcept
         : limits(of_passes, laps) {}
 };
+/// Of a queue for one producer and one consumer.
+struct no_limits {};
 template <kind K, class... Given> inline constexpr bool are_limits =
     std::is_constructible_v<limits<K>, Given...>;
 
@@ -81,7 +87,6 @@ template <class Option> struct option : plain_option {
     static constexpr bool known = false;
 };
 template <std::size_t N> struct option<capacity<N>> : plain_option {
-    static_assert(N >= 1 && N <= 1048573, "lockfree: a capacity is 1 to 1,048,573");
     static constexpr bool sizes = true;
     static constexpr std::size_t size = N;
 };
@@ -100,6 +105,7 @@ constexpr int count_of(bool holds) { return holds ? 1 : 0; }
 /// What the options of a container say together.
 template <class... Options> struct options {
     static constexpr std::size_t size = (std::size_t{0} + ... + option<Options>::size);
+    static constexpr bool sizes = (false || ... || option<Options>::sizes);
     static constexpr bool fixed =
         (false || ... || (option<Options>::fixes || option<Options>::sizes));
 
@@ -113,9 +119,7 @@ template <class... Options> struct options {
                       "lockfree: fixed_sized is given twice");
         static_assert(!(false || ... || option<Options>::grows),
                       "lockfree: no container here grows, so fixed_sized<false> cannot be had");
-        static_assert(
-            !(false || ... || option<Options>::allocates),
-            "lockfree: no container here takes an allocator: its constructor takes all memory");
+        static_assert(!(false || ... || option<Options>::allocates), LOCKFREE_NO_ALLOCATOR);
         return true;
     }
 };

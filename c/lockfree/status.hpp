@@ -83,7 +83,8 @@ inline void throw_for(std::uint32_t code) {
         LOCKFREE_THROW(
             std::invalid_argument("lockfree: a capacity is 1 to 1,048,573, a tag limit 2 to 2^42 - "
                                   "1; a ring has 1 to 65,534 passes, with "
-                                  "the capacity at most 1,048,574, and 1 to 2^41 - 1 laps"));
+                                  "the capacity at most 1,048,574, and 1 to 2^41 - 1 laps; an "
+                                  "spsc_queue has a capacity of 1 to 4,294,967,295"));
     case LOCKFREE_NO_PASS:
         LOCKFREE_THROW(std::length_error(
             "lockfree: all passes of the container are out, or this one is empty"));

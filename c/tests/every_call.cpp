@@ -37,6 +37,9 @@ template <class T> struct sample;
 template <> struct sample<int> {
     static int make() { return 7; }
 };
+template <> struct sample<std::uint64_t> {
+    static std::uint64_t make() { return 7; }
+};
 template <> struct sample<padded> {
     static padded make() { return {7, 8}; }
 };
@@ -219,6 +222,61 @@ template <class Container> void of_kind() {
     CHECK(made && made->push(sample<T>::make()) && made->finish(hears{count}) == lockfree::status::ok && count == 1);
 }
 
+/// What the producer of an spsc_queue has besides, and what the consumer has.
+template <class By, class T = typename By::value_type> std::size_t calls_of_producer(By &by) {
+    std::array<T, 3> some{sample<T>::make(), sample<T>::make(), sample<T>::make()};
+    std::size_t count = by.write_available() + by.capacity();
+    count += by.full() || by.is_lock_free() || By::is_always_lock_free;
+    count += by.push(sample<T>::make());
+    count += by.emplace(sample<T>::make());
+    count += by.push(std::make_move_iterator(some.begin()), std::make_move_iterator(some.end())).base() == some.end();
+    if constexpr (copies<T>) {
+        const T more[2] = {sample<T>::make(), sample<T>::make()};
+        std::list<T> rest(some.begin(), some.end());
+        count += by.push(some[0]);
+        count += by.push(more) + by.push(more, 1) + by.try_push(more, 2).count;
+        count += by.push(rest.begin(), rest.end()) == rest.end();
+        count += by.push_range(rest) == rest.end();
+        count += by.try_push_range(rest).what == lockfree::status::ok;
+    }
+    return count + (lockfree::spsc_producer<T>() ? 1 : 0);
+}
+template <class By, class T = typename By::value_type> std::size_t calls_of_consumer(By &by) {
+    T out = sample<T>::make();
+    T few[2] = {sample<T>::make(), sample<T>::make()};
+    std::optional<T> maybe;
+    std::list<T> list;
+    std::size_t count = by.read_available() + by.size() + by.capacity();
+    count += by.empty() || by.is_closed() || by.is_lock_free() || by.try_front() == &by.front();
+    count += by.pop(out);
+    count += by.pop(maybe);
+    count += by.pop().has_value();
+    count += by.pop(lockfree::uses_optional).has_value();
+    count += by.pop(few) + by.pop(few, 1) + by.pop(std::back_inserter(list), 1) + by.try_pop(few, 2).count;
+    count += by.consume_one(hears{count});
+    count += by.consume_one([](T &&) {});
+    count += by.pop(std::back_inserter(list)) + by.pop(&few[0]);
+    by.reset();
+    return count + by.consume_all([](const T &) {}) + (lockfree::spsc_consumer<T>() ? 1 : 0);
+}
+template <class T> void of_spsc() {
+    lockfree::spsc_queue<T> queue(64);
+    lockfree::spsc_queue<T, lockfree::capacity<64>> fixed;
+    CHECK(calls_with_status(queue) > 0 && calls_of_producer(queue) > 0 && calls_of_consumer(queue) > 0);
+    auto [producer, consumer] = lockfree::spsc<T>(64);
+    auto none = lockfree::try_spsc<T>(0);
+    none.producer.swap(producer);
+    none.consumer = std::move(consumer);
+    CHECK(!producer && none.producer && calls_of_producer(none.producer) > 0 && !none.producer.is_closed());
+    CHECK(calls_of_consumer(none.consumer) > 0 && none.producer.close() && none.producer.try_close() == lockfree::status::closed);
+    lockfree::blocking<lockfree::spsc_queue<T>> waits(64);
+    CHECK(calls_with_status(waits) > 0 && waits.close() && fixed.close());
+    const auto made = lockfree::make<lockfree::spsc_queue<T, lockfree::capacity<8>>>();
+    CHECK(made && made->push(sample<T>::make()));
+    boost::lockfree::spsc_queue<T, boost::lockfree::capacity<8>> boosts;
+    CHECK(boosts.push(sample<T>::make()) && boosts.pop() && !boosts.pop());
+}
+
 /// The types of passes have names, also while the type of a value is not complete.
 struct question {
     lockfree::queue_pass<question> to_queue;
@@ -253,6 +311,12 @@ int main() {
     of_kind<lockfree::bounded_stack<std::string>>();
     of_kind<lockfree::ring_queue<int>>();
     of_kind<lockfree::ring_queue<large>>();
+    of_spsc<int>();
+    of_spsc<std::uint64_t>();
+    of_spsc<padded>();
+    of_spsc<std::string>();
+    of_spsc<std::unique_ptr<int>>();
+    of_spsc<large>();
     with_limits();
     std::puts("passed");
 }

@@ -18,23 +18,43 @@
 // reason 15: no container here takes an allocator
 // reason 16: fixed_sized<false> cannot be had
 // reason 17: no container here takes an allocator
-// reason 18: own queue or stack is included already
+// reason 18: own queue, stack or spsc_queue is included already
 // reason 19: there is nothing to reserve
 // reason 20: deleted
 // reason 21: no matching function
 // reason 22: no matching function
 // reason 23: no matching function
 // reason 24: discards qualifiers
+// reason 25: use of deleted function
+// reason 26: use of deleted function
+// reason 27: use of deleted function
+// reason 28: its type must move
+// reason 29: the destructor of a value throws nothing
+// reason 30: values are of an object type
+// reason 31: a capacity of an spsc_queue is 1 to 4,294,967,295
+// reason 32: a capacity of an spsc_queue is 1 to 4,294,967,295
+// reason 33: no matching function
+// reason 34: no matching function
+// reason 35: no container here takes an allocator
+// reason 36: an option is not known
+// reason 37: read-only location
+// reason 38: deleted
+// reason 39: no member named
+// reason 40: own queue, stack or spsc_queue is included already
 #ifndef CASE
 #define CASE 0
 #endif
 #if CASE == 18
 #define BOOST_LOCKFREE_FIFO_HPP_INCLUDED  // as Boost's header does
+#elif CASE == 40
+#define BOOST_LOCKFREE_SPSC_QUEUE_HPP_INCLUDED
 #endif
 #include "lockfree_boost.hpp"
 
+#include <atomic>
 #include <memory>
 #include <string>
+#include <utility>
 
 using namespace lockfree;
 
@@ -107,6 +127,42 @@ int main() {
 #elif CASE == 24
     const auto pass = sound.split();
     return pass.empty();
+#elif CASE == 25
+    auto ends = spsc<int>(8);
+    const spsc_producer<int> copied(ends.producer);
+#elif CASE == 26
+    auto ends = spsc<int>(8);
+    ends.consumer = ends.consumer;
+#elif CASE == 27
+    spsc_queue<int> whole(8);
+    const spsc_queue<int> moved(std::move(whole));
+#elif CASE == 28
+    spsc_queue<std::atomic<int>, capacity<8>> refused;
+#elif CASE == 29
+    spsc<throws_at_its_end>(8);
+#elif CASE == 30
+    spsc_queue<const std::string> refused(8);
+#elif CASE == 31
+    spsc_queue<int, capacity<0>> refused;
+#elif CASE == 32
+    spsc_queue<int, capacity<4294967296>> refused;
+#elif CASE == 33
+    spsc_queue<int> refused;
+#elif CASE == 34
+    spsc_queue<int, capacity<8>> refused(8);
+#elif CASE == 35
+    spsc_queue<int, allocator<std::allocator<int>>> refused(8);
+#elif CASE == 36
+    spsc_queue<int, int> refused(8);
+#elif CASE == 37
+    spsc_queue<long> words(8);
+    words.front() = 1;
+#elif CASE == 38
+    spsc_queue<unassignable> bases(8);
+    bases.push(derived());
+#elif CASE == 39
+    spsc_queue<int> single(8);
+    single.shut();
 #endif
     return sound.push(1) && also_sound.push(2) ? 0 : 1;
 }

@@ -21,9 +21,21 @@ template <class Container> void all() {
     CHECK(container->close() && container->push_wait(kept) == status::closed);
 }
 
+void all_of_spsc() {
+    using queue = lockfree::spsc_queue<std::string>;
+    CHECK(!lockfree::make<queue>(0) && !lockfree::try_spsc<std::string>(0).producer);
+    const auto made = lockfree::make<queue>(1);
+    auto [producer, consumer] = lockfree::try_spsc<std::string>(1);
+    std::string out, kept(40, 'k');
+    CHECK(made && made->push("a") && !made->push(std::move(kept)) && kept.size() == 40 && made->pop(out) && out == "a");
+    CHECK(producer.try_push(kept) == status::ok && producer.close() && consumer.pop_wait(out) == status::ok && out == kept);
+    CHECK(consumer.try_pop(out) == status::closed && consumer.consume_all([](std::string &) {}) == 0);
+}
+
 }  // namespace
 
 int main() {
+    all_of_spsc();
     all<lockfree::bounded_queue<std::string>>();
     all<lockfree::bounded_stack<std::string>>();
     all<lockfree::ring_queue<std::string>>();

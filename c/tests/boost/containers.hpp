@@ -5,6 +5,7 @@
 #include "lockfree_boost.hpp"
 #else
 #include <boost/lockfree/queue.hpp>
+#include <boost/lockfree/spsc_queue.hpp>
 #include <boost/lockfree/stack.hpp>
 #endif
 #include "../check.hpp"

@@ -8,8 +8,9 @@
 #include <boost/lockfree/spsc_queue.hpp>
 #include <boost/lockfree/stack.hpp>
 
+// Boost's headers after these, which are empty then, and Boost's policies.
 int main() {
-    lf::spsc_queue<int, lf::fixed_sized<true>> one(4);
+    lf::spsc_queue<int, lf::capacity<4>> one;
     lf::queue<int, lf::fixed_sized<true>> many(4);
     lf::stack<int, lf::capacity<4>> pile;
     int out = 0;
