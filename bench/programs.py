@@ -1,4 +1,4 @@
-"""The programs that bench/compare runs in turns, by the container and by how they were compiled."""
+"""The programs that bench/compare and bench/compare_spsc run in turns: compiles them, and knows those of bench/compare by the container."""
 
 import os
 import shutil
@@ -29,11 +29,10 @@ def versions(builds):
 
 
 class Programs:
-    """Each method that returns commands returns those of what is measured beside one another, compiled the same way."""
+    """Programs in a folder. What is measured beside one another is compiled the same way."""
 
     def __init__(self, words, folder):
         self.words, self.folder, self.wanted = words, folder, {}
-        self.moodycamel = self.has_moodycamel()
 
     def program(self, *which):
         """The path of a program, which is compiled by `compile_all`: its build, its source, whether it is over our containers,
@@ -56,6 +55,17 @@ class Programs:
         with ThreadPoolExecutor(len(os.sched_getaffinity(0))) as pool:
             list(pool.map(self.compile, missing))
 
+    def pinned(self, commands, threads):
+        return {name: turns.pinned(command, threads, self.words.real_time) for name, command in commands.items()}
+
+
+class Peers(Programs):
+    """Those of bench/compare. Each method that returns commands returns those of what is measured beside one another."""
+
+    def __init__(self, words, folder):
+        super().__init__(words, folder)
+        self.moodycamel = self.has_moodycamel()
+
     def has_moodycamel(self):
         others = self.program(self.words.builds[0], "peers", False, 4096, 8)
         self.compile_all()
@@ -63,9 +73,6 @@ class Programs:
         if done.returncode:
             print("compare: no moodycamel: libconcurrentqueue-dev is not there", file=sys.stderr)
         return done.returncode == 0
-
-    def pinned(self, commands, threads):
-        return {name: turns.pinned(command, threads, self.words.real_time) for name, command in commands.items()}
 
     def command(self, build, kind, ours, case, work, size=8):
         capacity, producers, consumers, share = case

@@ -6,8 +6,9 @@ import statistics
 import subprocess
 import sys
 
-# The figures of a run, as peers.cpp prints them. refusals.cpp prints one, nanoseconds of a call.
-FIGURES = ("per item", "50th", "99th", "99.9th")
+# The percentiles of a call, which peers.cpp prints beside nanoseconds of an item, and their places among the figures of a run.
+# spsc.cpp prints nanoseconds of an item alone, and refusals.cpp those of a call.
+PRINTED = ("50th", "99th", "99.9th")
 PERCENTILES = {"p50": 1, "p99": 2, "p999": 3}
 P999 = PERCENTILES["p999"]
 # Seconds after which a run hangs: one takes at most a few.
@@ -22,16 +23,16 @@ def pinned(command, threads, real_time):
 
 
 def measured(command):
-    """What a program prints: nanoseconds per item, then the percentiles of a call, or nanoseconds of a call alone."""
+    """What a program prints: nanoseconds of an item or a call, and the percentiles of a call if it has them."""
     try:
         run = subprocess.run(command, capture_output=True, text=True, check=False, timeout=LIMIT)
     except subprocess.TimeoutExpired:
-        sys.exit(f"compare: a run hangs: {' '.join(command)}")
+        sys.exit(f"a run hangs: {' '.join(command)}")
     found = [re.search(r"nanoseconds (?:per item|of a call): ([\d.]+)", run.stdout)]
-    if found[0] and "per item" in found[0].group(0):
-        found += [re.search(rf"{re.escape(name)} percentile: (\d+)", run.stdout) for name in FIGURES[1:]]
+    if "percentile" in run.stdout:
+        found += [re.search(rf"{re.escape(name)} percentile: (\d+)", run.stdout) for name in PRINTED]
     if run.returncode or not all(found):
-        sys.exit(f"compare: a run failed: {' '.join(command)}\n{run.stderr[-500:]}")
+        sys.exit(f"a run failed: {' '.join(command)}\n{run.stderr[-500:]}")
     return [float(one.group(1)) for one in found]
 
 

@@ -1,20 +1,22 @@
-"""The figures that were measured: docs/figures/speed.tsv and calls.tsv, and whether they are of the code as it is.
+"""The figures that were measured: docs/figures/speed.tsv, calls.tsv and spsc.tsv, and whether they are of the code as it is.
 
 The first lines of each file, which begin with '#', say what was measured: the commit, a digest of the code, the machine, the
 compilers, the build that the pages show (`headline`) and the rounds. Then comes the line with the names of the columns. In
-speed.tsv `ratio` is the median of all rounds, `q1` and `q3` are their quartiles, and `low` and `high` the lowest and the highest
-median of a measurement. '-' is a figure that was not measured. bench/compare --write writes both files. Nothing writes
-array_queue.tsv anew: it was measured from Rattle, by a program that this tree no longer has."""
+speed.tsv and spsc.tsv `ratio` is the median of all rounds, `q1` and `q3` are their quartiles, and `low` and `high` the lowest and
+the highest median of a measurement. In spsc.tsv `values` is how many a call has. '-' is a figure that was not measured.
+bench/compare --write writes speed.tsv and calls.tsv, and bench/compare_spsc --write spsc.tsv. Nothing writes array_queue.tsv
+anew: it was measured from Rattle, by a program that this tree no longer has."""
 
 import os
 
 import measured_code
 
 HERE = os.path.dirname(os.path.realpath(__file__))
-SPEED, CALLS, ARRAY_QUEUE = f"{HERE}/speed.tsv", f"{HERE}/calls.tsv", f"{HERE}/array_queue.tsv"
+SPEED, CALLS, SPSC, ARRAY_QUEUE = (f"{HERE}/{it}.tsv" for it in ("speed", "calls", "spsc", "array_queue"))
 HEADS = {
     SPEED: "container build capacity threads bytes work ns boost_ns ratio q1 q3 low high p50 p99 p999 boost_p999".split(),
     CALLS: "container build call bytes here boost".split(),
+    SPSC: "container build capacity threads bytes values ns boost_ns ratio q1 q3 low high".split(),
 }
 
 
@@ -40,5 +42,5 @@ def number(cell):
 
 def at_commit(about):
     """Of which code figures are: the commit, and whether the code is another now."""
-    is_now = about["code"] == measured_code.digest()
+    is_now = measured_code.is_of_this_tree(about["code"])
     return f"at commit `{about['commit']}`{'' if is_now else ', before later changes'}"

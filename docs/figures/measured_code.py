@@ -10,9 +10,11 @@ import re
 import subprocess
 
 TOP = os.path.dirname(os.path.dirname(os.path.dirname(os.path.realpath(__file__))))
-# The crate that is called, and the other files.
+# What is measured: the crate that is called, and the headers.
 CRATE = "lockfree_c"
-FILES = ("c/lockfree.h", "c/lockfree.hpp", "c/lockfree/*.hpp", "bench/peers.cpp", "bench/refusals.cpp")
+HEADERS = ("c/lockfree.h", "c/lockfree.hpp", "c/lockfree/*.hpp")
+# What measures it: the programs of each command.
+PROGRAMS = {"bench/compare": ("bench/peers.cpp", "bench/refusals.cpp"), "bench/compare_spsc": ("bench/spsc.cpp",)}
 COMMENT = re.compile(r"//[^\n]*|/\*.*?\*/", re.S)
 IMPORT = re.compile(r"\bghost use\b[^;]*;")
 # How a contract or another text for the prover begins.
@@ -36,12 +38,12 @@ def crates_below(name):
     return sorted(found)
 
 
-def all_paths():
-    return [*(f"crates/{it}/src" for it in crates_below(CRATE)), *FILES]
+def all_paths(command):
+    return [*(f"crates/{it}/src" for it in crates_below(CRATE)), *HEADERS, *PROGRAMS[command]]
 
 
-def all_files():
-    for path in all_paths():
+def all_files(command):
+    for path in all_paths(command):
         pattern = f"{path}/**/*.rt" if path.startswith("crates/") else path
         yield from sorted(os.path.relpath(it, TOP) for it in glob.glob(f"{TOP}/{pattern}", recursive=True))
 
@@ -66,10 +68,10 @@ def code_of(path):
 
 
 @functools.cache
-def digest():
-    """A name for the code that is measured, as it is in this tree."""
+def digest(command):
+    """A name for the code that a command measures, as it is in this tree."""
     whole = hashlib.sha256()
-    for path in all_files():
+    for path in all_files(command):
         whole.update(f"{path}\n{code_of(path)}\n".encode())
     return whole.hexdigest()[:16]
 
@@ -80,6 +82,11 @@ def git(*words):
     return done.stdout.strip() if done.returncode == 0 else ""
 
 
-def commit():
-    """The commit of this tree, unless files were changed on which figures depend."""
-    return git("rev-parse", "--short=8", "HEAD") if not git("status", "--porcelain", "--", *all_paths()) else ""
+def is_of_this_tree(code):
+    """Whether a digest names the code as it is: each names the programs too, so only that of the same command can be equal."""
+    return code in map(digest, PROGRAMS)
+
+
+def commit(command):
+    """The commit of this tree, unless files were changed on which the figures of a command depend."""
+    return git("rev-parse", "--short=8", "HEAD") if not git("status", "--porcelain", "--", *all_paths(command)) else ""
