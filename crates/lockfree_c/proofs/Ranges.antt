@@ -29,7 +29,7 @@ use Rattle.treiber_stack.specs.code.RangeTrying.{IsRangeOp, MadeWith, RangeOp, g
 use Rattle.treiber_stack.specs.Bulk.{RangeSteps}
 use Rattle.treiber_stack.specs.code.Refusing.{barring}
 use Rattle.treiber_stack.specs.code.Steps.{IsAt}
-use Rattle.treiber_stack.specs.Calls.{begun_of, pass_in, shape_of}
+use Rattle.treiber_stack.specs.Calls.{Stack, begun_of, pass_in, shape_of}
 use Rattle.treiber_stack.specs.declared.bulk.range_steps.Held.{Held}
 use Rattle.treiber_stack.specs.declared.bulk.range_steps.RangeAt.{RangeAt}
 use Rattle.treiber_stack.specs.declared.bulk.range_steps.RangeAt.TheVariants.{GiveBack}
@@ -37,7 +37,6 @@ use Rattle.treiber_stack.specs.declared.code.giving.Give.{Give}
 use Rattle.treiber_stack.specs.declared.code.giving.Give.TheVariants.{Load, Link, Exchange}
 use Rattle.treiber_stack.specs.declared.code.refusing.Barred.{Barred}
 use Rattle.treiber_stack.specs.declared.code.refusing.Barred.TheVariants.{Closed, Spent}
-use Rattle.treiber_stack.specs.declared.life.stack.Stack.{Stack}
 use Rattle.lockfree_c.specs.Stacks.{RangeTook, RangeTookFrom, RangeWentOn, RangeWorkedAtMost, StackMade}
 use Rattle.lockfree_c.specs.declared.calls.stack.StackWork.TheVariants.{Copy}
 use Rattle.lockfree_c.specs.declared.work.Said.TheVariants as said

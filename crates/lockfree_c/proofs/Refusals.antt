@@ -9,6 +9,7 @@ use Rattle.bounded_model.specs.Calls.{CallGives}
 use Rattle.running.specs.Going.{Ended}
 use Rattle.running.specs.Kept.{OpRunsFor, answer_of}
 use Rattle.running.specs.Passes.{begun_of}
+use Rattle.running.specs.Ties.{no_rule}
 use Rattle.ring_table.specs.declared.operation.Operation.{Operation}
 use Rattle.ring_queue.specs.code.Machine.{is_call}
 use Rattle.ring_queue.specs.code.Every.{every_account}
@@ -22,7 +23,7 @@ use Rattle.lockfree_c.proofs.Runs.{tried_for}
 module _ (c : Ring) where
   -- from the answer that its machine ended with
   refusal_tells : (o : Operation ℕ) (begun : PassView ℕ) (back : Pass ℕ) (said : Reply ℕ) → Ended (machine_of c) o back.pass.seat.me.0 begun ((every_account c.table.shared.key).answer o (answer_of back said)) → RefusalTells c begun back said
-  refusal_tells o begun back (Put r) e = (full_tells c o begun back r e, spent_tells c o begun back r e)
+  refusal_tells o begun back (Put r) e = (full_tells no_rule c o begun back r e, spent_tells no_rule c o begun back r e)
   refusal_tells o begun back said e = tt
 
   module _ (n : ℕ) (op : AnyOp ℕ) where

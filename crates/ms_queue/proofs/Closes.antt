@@ -8,7 +8,7 @@ use Rattle.ms_queue.specs.declared.code.seeking.Seek.{Seek}
 use Rattle.ms_queue.specs.declared.code.seeking.End.{End}
 use Rattle.ms_queue.specs.declared.code.seeking.End.TheVariants.{Closed as EndClosed, Open}
 use Rattle.ms_queue.specs.code.Closing.{close_account, close_line}
-use Rattle.ms_queue.specs.Calls.{Queue, limit_of, machine_of}
+use Rattle.ms_queue.specs.Calls.{QueueWith, limit_of, machine_of}
 use Rattle.ms_queue.specs.code.Machine.{Answered}
 use Rattle.ms_queue.specs.code.Steps.{Seeks, SoughtTo}
 use Rattle.ms_queue.proofs.Seeks.{busy, sought_within}
@@ -20,7 +20,7 @@ marking (Lost at) = Lost (Seeking at)
 marking (Done (EndClosed w)) = Done (record { kept = tt; reply = false })
 marking (Done (Open w x)) = On (Mark w x)
 
-module _ {T : Type 0} (c : Queue T) where
+module _ {T : Type 0} {D : Type 0} (c : QueueWith T D) where
   abbrev pub ClosesTo : CloseAt → List (ℕ × Slot T) → Next CloseAt (Answered Bool) → Line T → Type 0
   ClosesTo s has to l = Leads names (close_account c.table.shared.key) s l has to
 

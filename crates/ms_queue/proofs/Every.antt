@@ -6,7 +6,7 @@ use Rattle.ms_queue.specs.Prelude.{Account, Done, Finding, Leads, Line, Lost, Ne
 use Rattle.ms_queue.specs.code.Closing.{close_account}
 use Rattle.ms_queue.specs.code.Every.{every_account, every_line, every_slots}
 use Rattle.ms_queue.specs.code.Putting.{Answer as PutAnswer, put_account}
-use Rattle.ms_queue.specs.Calls.{Queue, machine_of}
+use Rattle.ms_queue.specs.Calls.{QueueWith, machine_of}
 use Rattle.ms_queue.specs.code.Machine.{Answered}
 use Rattle.ms_queue.specs.code.Shutting.{shut_account}
 use Rattle.ms_queue.specs.code.Taking.{Answer as TakeAnswer, take_account}
@@ -23,7 +23,7 @@ every at said (On s) = On (at s)
 every at said (Lost s) = Lost (at s)
 every at said (Done a) = Done (record { kept = a.kept; reply = said a.reply })
 
-module _ {T : Type 0} (c : Queue T) where
+module _ {T : Type 0} {D : Type 0} (c : QueueWith T D) where
   abbrev pub Every : QueueAt T → Outcome → List (ℕ × Slot T) → List (ℕ × Slot T) → Next (QueueAt T) (Answered (Reply T)) → Type 0
   Every s r has after to = Finding (machine_of c).core (every_line s) r (every_slots s) has (λ found came. Leads names (every_account c.table.shared.key) s ((machine_of c).core.next (every_line s) found came) after to)
 

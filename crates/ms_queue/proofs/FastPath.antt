@@ -1,33 +1,48 @@
 -- Some steps of an operation after others, where the operation went on.
-use Rattle.std.proofs.Common.{◌≡◌, ℕ, ◌≤◌, Bool}
+use Rattle.std.proofs.Common.{◌≡◌, ℕ, ◌≤◌, Bool, List, subst}
 use Rattle.bounded_model.specs.declared.answers.Stepped.TheVariants.{Done}
 use Rattle.running.specs.Passes.{Since, pass_in}
+use Rattle.running.specs.Steps.{Stands}
 use Rattle.running.proofs.Leading.{ran_on}
-use Rattle.ms_queue.specs.Prelude.{Again, Line, MatchStepped, Next, Op, Operation, Pass, PassWith, Stepped}
+use Rattle.ms_queue.specs.Prelude.{Again, Event, Line, MatchStepped, Next, On, Op, Operation, Pass, PassWith, Stepped}
 use Rattle.ms_queue.specs.declared.code.counting.LenAt.{LenAt}
 use Rattle.ms_queue.specs.declared.code.looking.LookAt.{LookAt}
 use Rattle.ms_queue.specs.declared.code.putting.PutAt.{PutAt}
 use Rattle.ms_queue.specs.declared.code.taking.TakeAt.{TakeAt}
-use Rattle.ms_queue.specs.Calls.{Queue, machine_of}
+use Rattle.ms_queue.specs.Calls.{QueueWith, machine_with}
 use Rattle.ms_queue.specs.code.Machine.{Answered}
-use Rattle.ms_queue.specs.code.Steps.{LenRan, LookRan, PutRan, TakeRan}
+use Rattle.ms_queue.specs.code.Steps.{LenRan, LookRan, PutRan, PutStands, TakeRan}
 use Rattle.ms_queue.specs.code.Counting.{len_account}
 use Rattle.ms_queue.specs.code.Looking.{look_account}
 use Rattle.ms_queue.specs.code.Putting.{Answer as PutAnswer, put_account}
 use Rattle.ms_queue.specs.code.Taking.{Answer as TakeAnswer, take_account}
 
-module _ {T : Type 0} (c : Queue T) (o : Operation T) (p q t : Pass T (Line T)) where
-  pub put_after : Since (machine_of c) p q → (r : Next (PutAt T) (PutAnswer T)) → PutRan c o q t r → PutRan c o p t r
-  put_after since r ran = ran_on (machine_of c) (put_account c.table.shared.key) c.table.shared.table_id o p q t since r ran
+module _ {T : Type 0} (rule : List (Event T) → Type 0) {D : Type 0} (c : QueueWith T D) (o : Operation T) (p q t : Pass T (Line T)) where
+  pub put_after : Since (machine_with rule c) p q → (r : Next (PutAt T) (PutAnswer T)) → PutRan rule c o q t r → PutRan rule c o p t r
+  put_after since r ran = ran_on (machine_with rule c) (put_account c.table.shared.key) c.table.shared.table_id o p q t since r ran
 
-  pub take_after : Since (machine_of c) p q → (r : Next (TakeAt T) (TakeAnswer T)) → TakeRan c o q t r → TakeRan c o p t r
-  take_after since r ran = ran_on (machine_of c) (take_account c.table.shared.key) c.table.shared.table_id o p q t since r ran
+  -- a put that went on stands at the state at which it went on
+  pub put_stands : (r : Next (PutAt T) (PutAnswer T)) (at : PutAt T) → r ≡ On at → PutRan rule c o p q r → Stands (machine_with rule c) (put_account c.table.shared.key) c.table.shared.table_id q at
+  put_stands r at is ran = (subst (PutRan rule c o p q) is ran).0
 
-  pub look_after : Since (machine_of c) p q → (r : Next LookAt (Answered Bool)) → LookRan c o q t r → LookRan c o p t r
-  look_after since r ran = ran_on (machine_of c) (look_account c.table.shared.key) c.table.shared.table_id o p q t since r ran
+  pub put_stands_so : (r : Next (PutAt T) (PutAnswer T)) (at : PutAt T) → r ≡ On at → PutRan rule c o p q r → PutStands rule c o q at
+  put_stands_so r at is ran = let on = subst (PutRan rule c o p q) is ran in (on.1, on.0)
 
-  pub len_after : Since (machine_of c) p q → (r : Next LenAt (Answered ℕ)) → LenRan c o q t r → LenRan c o p t r
-  len_after since r ran = ran_on (machine_of c) (len_account c.table.shared.key) c.table.shared.table_id o p q t since r ran
+  pub put_going : (r : Next (PutAt T) (PutAnswer T)) (at : PutAt T) → r ≡ On at → PutRan rule c o p q r → PutRan rule c o p q (On at)
+  put_going r at is ran = subst (PutRan rule c o p q) is ran
+
+  -- after others
+  pub put_goes_on : Since (machine_with rule c) p q → (r : Next (PutAt T) (PutAnswer T)) → PutRan rule c o q t r → (at : PutAt T) → r ≡ On at → PutRan rule c o p t (On at)
+  put_goes_on since r ran at is = put_after since (On at) (subst (PutRan rule c o q t) is ran)
+
+  pub take_after : Since (machine_with rule c) p q → (r : Next (TakeAt T) (TakeAnswer T)) → TakeRan rule c o q t r → TakeRan rule c o p t r
+  take_after since r ran = ran_on (machine_with rule c) (take_account c.table.shared.key) c.table.shared.table_id o p q t since r ran
+
+  pub look_after : Since (machine_with rule c) p q → (r : Next LookAt (Answered Bool)) → LookRan rule c o q t r → LookRan rule c o p t r
+  look_after since r ran = ran_on (machine_with rule c) (look_account c.table.shared.key) c.table.shared.table_id o p q t since r ran
+
+  pub len_after : Since (machine_with rule c) p q → (r : Next LenAt (Answered ℕ)) → LenRan rule c o q t r → LenRan rule c o p t r
+  len_after since r ran = ran_on (machine_with rule c) (len_account c.table.shared.key) c.table.shared.table_id o p q t since r ran
 
 -- A call that is left after its first steps has made no others
 module _ {T L O S K A : Type 0} (first : Pass T L) (n : ℕ) (most : (pass_in first).steps ≤ n) where

@@ -9,7 +9,7 @@ use Rattle.ms_queue.specs.declared.code.seeking.Seek.{Seek}
 use Rattle.ms_queue.specs.declared.code.seeking.End.{End}
 use Rattle.ms_queue.specs.declared.code.seeking.End.TheVariants.{Closed as EndClosed, Open}
 use Rattle.ms_queue.specs.code.Gauging.{gauge_account, gauge_line}
-use Rattle.ms_queue.specs.Calls.{Queue, limit_of, machine_of}
+use Rattle.ms_queue.specs.Calls.{QueueWith, limit_of, machine_of}
 use Rattle.ms_queue.specs.code.Machine.{Answered}
 use Rattle.ms_queue.specs.code.Steps.{Seeks, SoughtTo}
 use Rattle.ms_queue.proofs.Seeks.{busy, sought_within}
@@ -21,7 +21,7 @@ gauging (Lost at) = Lost (Seeking at)
 gauging (Done (EndClosed w)) = Done (record { kept = tt; reply = record { closed = true; used = tag_of w } })
 gauging (Done (Open w x)) = On (CheckNext w x)
 
-module _ {T : Type 0} (c : Queue T) where
+module _ {T : Type 0} {D : Type 0} (c : QueueWith T D) where
   abbrev pub GaugesTo : GaugeAt → List (ℕ × Slot T) → Next GaugeAt (Answered Gauge) → Line T → Type 0
   GaugesTo s has to l = Leads names (gauge_account c.table.shared.key) s l has to
 

@@ -22,7 +22,7 @@ use Rattle.queue_machine.proofs.Linked.{head_below, node_below}
 use Rattle.running.specs.Rule.{Rule}
 use Rattle.queue_table.specs.Layout.{head_at}
 use Rattle.queue_table.specs.Memories.{at_home}
-use Rattle.ms_queue.specs.Prelude.{Line, NULL, RootView, View, index_of, next_at, queue}
+use Rattle.ms_queue.specs.Prelude.{Event, Line, NULL, RootView, View, index_of, next_at, queue_with}
 use Rattle.ms_queue.specs.code.Left.{node_behind, cell_of, count_full, slot_of, in_front, values_from, left_along}
 
 pub word_at : (words : List ℕ) (i n : ℕ) → get_elem? words i ≡ some n → slice_index words i ≡ n
@@ -128,10 +128,10 @@ module _ {T : Type 0} where
   values_home homes slots same (i ∷ is) [] has = absurd has
 
   -- what a table that was closed with the root's seat has left
-  pub leaves_all : {root : Line T} {ks : Acts (Line T)} (n limit id : ℕ) (v : View T (Line T)) (r : RootView T) (words : List ℕ) (slots : List (Slot T)) → (final : Final (Seen (Rule (queue T n limit)) id v) words slots) → v ≡ AtRoot r ks nothing root → IsSound (shape n limit) r → length slots ≡ n
+  pub leaves_all : {root : Line T} {ks : Acts (Line T)} (rule : List (Event T) → Type 0) (n limit id : ℕ) (v : View T (Line T)) (r : RootView T) (words : List ℕ) (slots : List (Slot T)) → (final : Final (Seen (Rule (queue_with T n limit rule)) id v) words slots) → v ≡ AtRoot r ks nothing root → IsSound (shape n limit) r → length slots ≡ n
       → (index_of (slice_index words head_at) ≤ n) × Leaves (shape n limit) r (left_along words slots (node_behind words (index_of (slice_index words head_at))))
       × (left_along words slots (node_behind words (index_of (slice_index words head_at))) ≡ (state (shape n limit) final.1.0.history).values)
-  leaves_all n limit id v r words slots final is sound long =
+  leaves_all rule n limit id v r words slots final is sound long =
       let rule = final.1.0 in
       let s = final.0 in
       let k = rule.good in

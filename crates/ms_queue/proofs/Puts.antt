@@ -18,7 +18,7 @@ use Rattle.ms_queue.specs.code.Giving.{AreHeld, Gives}
 use Rattle.ms_queue.specs.code.Steps.{GaveTo, Seeks, SoughtTo}
 use Rattle.ms_queue.specs.code.Machine.{put_of}
 use Rattle.ms_queue.specs.code.Putting.{Answer, put_account, linking, refused, put_line, put_slots, full_slot, HasReadToPut}
-use Rattle.ms_queue.specs.Calls.{Queue, room_of, limit_of, machine_of}
+use Rattle.ms_queue.specs.Calls.{QueueWith, room_of, limit_of, machine_of}
 use Rattle.ms_queue.proofs.Gives.{busy_giving, gave_within}
 use Rattle.ms_queue.proofs.Seeks.{busy, sought_within}
 
@@ -33,7 +33,7 @@ module _ {T : Type 0} where
   one_value zs us vs i j x y e f = sym (ap (value_or x) e) ∙ ap (value_or x) f
 
 -- where the code of a put goes on
-module _ {T : Type 0} (c : Queue T) where
+module _ {T : Type 0} {D : Type 0} (c : QueueWith T D) where
   abbrev pub PutsTo : PutAt T → List (ℕ × Slot T) → Onward (PutAt T) (Answer T) → Line T → Type 0
   PutsTo s has to l = Leads names (put_account c.table.shared.key) s l has to
 

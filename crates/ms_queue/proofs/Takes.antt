@@ -19,7 +19,7 @@ use Rattle.ms_queue.specs.declared.code.taking.TakeAt.{TakeAt}
 use Rattle.ms_queue.specs.declared.code.taking.TakeAt.TheVariants.{TakeHead as TakeFirstNode, GiveBack}
 use Rattle.ms_queue.specs.code.Giving.{AreHeld, Gives}
 use Rattle.ms_queue.specs.code.Steps.{GaveTo}
-use Rattle.ms_queue.specs.Calls.{Queue, room_of, limit_of, machine_of}
+use Rattle.ms_queue.specs.Calls.{QueueWith, room_of, limit_of, machine_of}
 use Rattle.ms_queue.specs.code.Taking.{Answer, take_account, took, take_line, take_slots, HasReadToTake}
 use Rattle.ms_queue.proofs.Gives.{busy_giving, gave_within}
 
@@ -46,7 +46,7 @@ returning t (On at) = On (GiveBack t at)
 returning t (Lost at) = Lost (GiveBack t at)
 returning t (Done x) = Done (record { kept = tt; reply = Ok (t.value, t.number) })
 
-module _ {T : Type 0} (c : Queue T) where
+module _ {T : Type 0} {D : Type 0} (c : QueueWith T D) where
   abbrev pub TakesTo : TakeAt T → List (ℕ × Slot T) → Next (TakeAt T) (Answer T) → Line T → Type 0
   TakesTo s has to l = Leads names (take_account c.table.shared.key) s l has to
 

@@ -1,11 +1,11 @@
 -- What a queue, its passes and its roots are, and what its calls promise. The laws of a call (`PutGives` and the like) are those of every
 -- container. How a state of an operation is read as a line of the machine is said below code/.
-use Rattle.std.specs.Prelude.{ℕ, [], ◌≡◌, Result, Bool}
+use Rattle.std.specs.Prelude.{ℕ, List, [], ◌≡◌, Result, Bool}
 use Rattle.running.specs.Kept as kept
 use Rattle.running.specs.Machine as running
 use Rattle.running.specs.Passes as passes
 use Rattle.bounded_model.specs.declared.views.Answered.TheVariants as answered
-use Rattle.ms_queue.specs.Prelude.{Adds, Answer, AnswerLen, Answers, Close, Command, HasRun, IsGauged, IsUnderWay, LenFirst, LenGives, Limits, Line}
+use Rattle.ms_queue.specs.Prelude.{Adds, Answer, AnswerLen, Answers, Close, Command, Event, Free, HasRun, IsGauged, IsUnderWay, LenFirst, LenGives, Limits, Line}
 use Rattle.ms_queue.specs.Prelude.{Look, LookGives, Makes, MatchStepped, Note, Op, Operation, PassView, PassWith, Put, PutGives, PutRefused, RootView}
 use Rattle.ms_queue.specs.Prelude.{RootWith, Shape, Shut, Sometime, Stepped, Take, TakeGives, TakeRefused, Underway, WasRunBy, begun_of, capacity_of}
 use Rattle.ms_queue.specs.Prelude.{ends, names, put_answered, tag_limit_of, underway_in}
@@ -18,7 +18,7 @@ use Rattle.ms_queue.specs.declared.code.looking.LookAt.{LookAt}
 use Rattle.ms_queue.specs.declared.code.counting.LenAt.{LenAt}
 use Rattle.ms_queue.specs.declared.code.gauging.GaugeAt.{GaugeAt}
 use Rattle.ms_queue.specs.declared.code.every.QueueAt.{QueueAt}
-use Rattle.ms_queue.specs.code.Machine.{machine_at, is_call}
+use Rattle.ms_queue.specs.code.Machine.{machine_at, machine_for, no_rule, is_call}
 use Rattle.ms_queue.specs.code.Putting.{put_account}
 use Rattle.ms_queue.specs.code.Taking.{take_account}
 use Rattle.ms_queue.specs.code.Closing.{close_account}
@@ -29,9 +29,12 @@ use Rattle.ms_queue.specs.code.Gauging.{gauge_account}
 use Rattle.ms_queue.specs.code.Every.{every_account}
 use Rattle.ms_queue.specs.declared.calls.gauging.Gauge.{Gauge}
 
--- a queue, its passes and its root, and the operations that its calls begin
+-- a queue whose client has given it a rule, and one with none; its passes and its root, and the operations that its calls begin
+abbrev pub QueueWith : Type 0 → Type 0 → Type 0
+QueueWith T D = declared.Queue T D
+
 abbrev pub Queue : Type 0 → Type 0
-Queue T = declared.Queue T
+Queue T = QueueWith T Free
 
 abbrev pub Pass : Type 0 → Type 0
 Pass T = PassWith T (Line T) (Unit {0})
@@ -78,27 +81,42 @@ module _ {T : Type 0} where
   root_in r = kept.root_in r
 
   -- how many values it has room for, and the limit of its tags
-  abbrev pub room_of : Queue T → ℕ
+  abbrev pub room_of : {D : Type 0} → QueueWith T D → ℕ
   room_of c = capacity_of c.table.shared.key
 
-  abbrev pub limit_of : Queue T → ℕ
+  abbrev pub limit_of : {D : Type 0} → QueueWith T D → ℕ
   limit_of c = tag_limit_of c.table.shared.key
 
-  abbrev pub machine_of : Queue T → running.Machine T (Line T) (Operation T) names
+  abbrev pub machine_of : {D : Type 0} → QueueWith T D → running.Machine T (Line T) (Operation T) names
   machine_of c = machine_at c.table.shared.key
 
-  abbrev pub shape_of : Queue T → Shape
+  abbrev pub shape_of : {D : Type 0} → QueueWith T D → Shape
   shape_of c = (machine_of c).core.shape
 
-  -- a pass between its operations, a root between its calls, and a note of one of its passes
+  -- With a client's rule: its machine, a pass between its operations, a root between its calls, and a note of one of its passes. What they have
+  -- seen keeps the rule
+  module _ (rule : List (Event T) → Type 0) {D : Type 0} where
+    abbrev pub machine_with : QueueWith T D → running.Machine T (Line T) (Operation T) names
+    machine_with c = machine_for rule c.table.shared.key
+
+    abbrev pub IsPassWith : QueueWith T D → Pass T → Type 0
+    IsPassWith c p = kept.IsPassAt (machine_with c) keeps c.table.shared.table_id p
+
+    abbrev pub IsRootWith : QueueWith T D → Root T → Type 0
+    IsRootWith c r = kept.IsRootAt (machine_with c) (stocks c.table.shared.key) c.table.shared.table_id r
+
+    abbrev pub IsNoteWith : QueueWith T D → Note T (Line T) → Type 0
+    IsNoteWith c n = passes.IsNoteOn (machine_with c) c.table.shared.table_id n
+
+  -- and of a queue with none
   abbrev pub IsPassOf : Queue T → Pass T → Type 0
-  IsPassOf c p = kept.IsPassAt (machine_of c) keeps c.table.shared.table_id p
+  IsPassOf c p = IsPassWith no_rule c p
 
   abbrev pub IsRootOf : Queue T → Root T → Type 0
-  IsRootOf c r = kept.IsRootAt (machine_of c) (stocks c.table.shared.key) c.table.shared.table_id r
+  IsRootOf c r = IsRootWith no_rule c r
 
   abbrev pub IsNoteOf : Queue T → Note T (Line T) → Type 0
-  IsNoteOf c n = passes.IsNoteOn (machine_of c) c.table.shared.table_id n
+  IsNoteOf c n = IsNoteWith no_rule c n
 
   -- a put of x, by its operation: the put of the value that the operation has is a put of x too
   abbrev pub IsPutting : Queue T → T → PutOp T → Type 0
@@ -132,8 +150,11 @@ module _ {T : Type 0} where
 
 -- A call of this operation was begun once, when its pass was `begun`. The machine's steps of that pass since then, each an act of its own,
 -- led the operation from its first line to this answer. The pass's count is that of its acts
+abbrev pub WasRunWith : {T : Type 0} → (List (Event T) → Type 0) → {D : Type 0} → QueueWith T D → Operation T → PassView T → Pass T → Answer T → Type 0
+WasRunWith rule c o begun back answer = HasRun (machine_with rule c) o back.pass.seat.me.0 begun (ends answer)
+
 abbrev pub WasRun : {T : Type 0} → Queue T → Operation T → PassView T → Pass T → Answer T → Type 0
-WasRun c o begun back answer = HasRun (machine_of c) o back.pass.seat.me.0 begun (ends answer)
+WasRun c o begun back answer = WasRunWith no_rule c o begun back answer
 
 -- A gauge of a queue of n cells with this limit changes nothing. It shows how the queue was at some time
 -- between what its pass had seen as the gauge was begun, v, and as it ended, w

@@ -26,7 +26,7 @@ pub use Rattle.queue_machine.specs.declared.lines.Line.{Line}
 pub use Rattle.queue_machine.specs.declared.lines.Line.TheVariants.{LoadHead, LoadNodesToGive}
 pub use Rattle.queue_machine.specs.declared.lines.Seeking.{Seeking}
 pub use Rattle.queue_machine.specs.declared.lines.Seeking.TheVariants.{ToClose, ToGauge, ToLink, ToRefuse}
-pub use Rattle.queue_table.proofs.Laws.{queue}
+pub use Rattle.queue_table.specs.Core.{queue_with}
 pub use Rattle.queue_table.specs.Layout.{next_at}
 pub use Rattle.queue_table.specs.Lines.{names, next}
 pub use Rattle.queue_table.specs.declared.operation.Operation.{Operation}
@@ -46,6 +46,7 @@ pub use Rattle.running.specs.declared.kept.RootWith.{RootWith}
 pub use Rattle.running.specs.declared.op.Op.{Op}
 pub use Rattle.running.specs.declared.passes.Note.{Note}
 pub use Rattle.running.specs.declared.passes.Pass.{Pass}
+pub use Rattle.running.specs.declared.tie.Free.{Free}
 pub use Rattle.tagged_index.specs.Fields.{fields_of, index_of, tag_of}
 pub use Rattle.tagged_index.specs.Limits.{capacity_of, tag_limit_of}
 pub use Rattle.tagged_index.specs.declared.limit.Limits.{Limits}

@@ -6,7 +6,7 @@ ghost use Rattle.queue_machine.specs.declared.lines.Line.{Line};
 ghost use Rattle.queue_machine.specs.Places.{NothingTwice};
 ghost use Rattle.queue_table.specs.Lines.{names};
 ghost use Rattle.queue_table.specs.Memories.{memory_of};
-ghost use Rattle.queue_table.proofs.Laws.{queue};
+ghost use Rattle.queue_table.specs.Core.{queue};
 ghost use Rattle.running.specs.Rule.{Rule, line_in};
 
 /// No cell and no node is in two places: each is free, in the chain, or held by one pass. This

@@ -2,7 +2,7 @@
 use Rattle.tagged_index.specs.Limits.{capacity_of, tag_limit_of}
 use Rattle.tagged_index.specs.declared.limit.Limits.{Limits}
 use Rattle.queue_machine.specs.Answers.{shape}
-use Rattle.queue_table.proofs.Laws.{queue}
+use Rattle.queue_table.specs.Core.{queue_with}
 use Rattle.std.proofs.Common.{◌≡◌, ℕ, ⊎_elim, List, [], ◌∷◌, sym, ap, ◌∙◌, subst, arith}
 use Rattle.std.specs.Prelude.{Result, Ok, Err}
 use Rattle.bounded_model.specs.declared.answers.Word.TheVariants.{Cells, Nodes, Next, Free as FreeWord, Top, Count}
@@ -25,9 +25,9 @@ use Rattle.queue_table.specs.Lines.{call_of}
 use Rattle.queue_table.specs.declared.operation.Operation.{Operation}
 use Rattle.running.specs.Going.{Ended}
 
-module _ {T : Type 0} (k : Limits) (o : Operation T) (v : View T (Line T)) (begun : PassView T) (x : T) where
+module _ {T : Type 0} (rule : List (Event T) → Type 0) (k : Limits) (o : Operation T) (v : View T (Line T)) (begun : PassView T) (x : T) where
   abbrev EndsSo : Result ℕ (PutRefused T) → Type 0
-  EndsSo r = Ended (queue T (capacity_of k) (tag_limit_of k)) o v begun (ends (AnswerPut r))
+  EndsSo r = Ended (queue_with T (capacity_of k) (tag_limit_of k) rule) o v begun (ends (AnswerPut r))
 
   abbrev Done : Result ℕ (PutRefused T) → Type 0
   Done r = Deeds (pass_of v).number (CallPut x) (ends (AnswerPut r)) begun.seen (pass_of v).seen
@@ -64,5 +64,5 @@ module _ {T : Type 0} (k : Limits) (o : Operation T) (v : View T (Line T)) (begu
   gives_so (Err (Spent y Count t)) e d = absurd d.made
 
 -- an operation that is a put of x gives what a put of x promises
-pub put_gives : {T : Type 0} (k : Limits) (x : T) (o : Operation T) (v : View T (Line T)) (begun : PassView T) → call_of o ≡ CallPut x → (r : Result ℕ (PutRefused T)) → Ended (queue T (capacity_of k) (tag_limit_of k)) o v begun (ends (AnswerPut r)) → PutGives (shape (capacity_of k) (tag_limit_of k)) begun x (pass_of v) r
-put_gives k x o v begun is r e = gives_so k o v begun x r e (subst (λ (call : Call _). Deeds (pass_of v).number call (ends (AnswerPut r)) begun.seen (pass_of v).seen) is e.deeds)
+pub put_gives : {T : Type 0} {rule : List (Event T) → Type 0} (k : Limits) (x : T) (o : Operation T) (v : View T (Line T)) (begun : PassView T) → call_of o ≡ CallPut x → (r : Result ℕ (PutRefused T)) → Ended (queue_with T (capacity_of k) (tag_limit_of k) rule) o v begun (ends (AnswerPut r)) → PutGives (shape (capacity_of k) (tag_limit_of k)) begun x (pass_of v) r
+put_gives {rule = rule} k x o v begun is r e = gives_so rule k o v begun x r e (subst (λ (call : Call _). Deeds (pass_of v).number call (ends (AnswerPut r)) begun.seen (pass_of v).seen) is e.deeds)

@@ -1,5 +1,5 @@
 -- What the queue's machine shows of its two lists, and the laws of their host.
-use Rattle.std.proofs.Common.{◌≡◌, ℕ, zero, suc, ◌+◌, ◌*◌, ◌<◌, Bool, true, false, cond, eqb, List, [], refl, sym, ap, inl, arith}
+use Rattle.std.proofs.Common.{◌≡◌, ℕ, zero, suc, ◌+◌, ◌<◌, Bool, true, false, cond, eqb, List, [], refl, sym, ap, inl, arith}
 use Rattle.std.specs.Prelude.{Option as Slot}
 use mathlib.Core.Option.{Option}
 use Rattle.bounded_model.specs.declared.history.Event.{Event}
@@ -11,14 +11,15 @@ use Rattle.queue_machine.specs.declared.lines.Line.TheVariants.{Idle, TakeCell, 
 use Rattle.queue_machine.specs.Machine.{Memory, held_cells, held_nodes}
 use Rattle.queue_machine.specs.Rule.{Lists as CoreLists, IsFine, Kept}
 use Rattle.running.specs.Rule.{Rule}
+use Rattle.running.specs.Ties.{IsTie}
 use Rattle.running.specs.Lists.{Listed, Hosts, Ready, BroughtBy, ReturnedBy, step_access, host}
 use Rattle.running.proofs.Hosting.{laws}
 use Rattle.running.proofs.Indexes.{listed}
 use Rattle.queue_table.specs.Layout.{cells_at, nodes_at, clink_at, nlink_at, words_for}
-use Rattle.queue_table.specs.Core.{core}
+use Rattle.queue_table.specs.Core.{core, queue_with}
 use Rattle.queue_table.specs.Memories.{memory_of}
 use Rattle.queue_table.specs.Lists.{lists, list_step}
-use Rattle.queue_table.proofs.Laws.{queue, idle_empty, first_empty}
+use Rattle.queue_table.proofs.Laws.{lawful, idle_empty, first_empty}
 
 agrees : {T : Type 0} (n limit : ℕ) (line : Line T) → (core T n limit).access line ≡ step_access (lists {T = T}) ((core T n limit).access line) (list_step line)
 agrees n limit (Idle a) = refl
@@ -65,8 +66,8 @@ both_empty : (first_list : Bool) (xs ys : List ℕ) → xs ≡ [] → ys ≡ [] 
 both_empty true xs ys a b = a
 both_empty false xs ys a b = b
 
-hosts : (T : Type 0) (n limit : ℕ) → Hosts (queue T n limit) (lists {T = T}) 2
-hosts T n limit = record {
+hosts : (T : Type 0) (n limit : ℕ) (rule : List (Event T) → Type 0) → Hosts (queue_with T n limit rule) (lists {T = T}) 2
+hosts T n limit rule = record {
   idle = λ l line e. both_empty (eqb l 0) (held_cells line) (held_nodes line) (idle_empty line e).cells (idle_empty line e).nodes;
   first = λ l o rest. both_empty (eqb l 0) _ _ (first_empty o).cells (first_empty o).nodes;
   apart = λ l i low e. link_off (eqb l 0) i e;
@@ -78,5 +79,5 @@ hosts T n limit = record {
   returned = λ words homes of lines h q line zs k at fits. returned n limit line zs fits;
 }
 
-pub list_laws : (T : Type 0) (n limit : ℕ) → Laws (lists {T = T}).layout (host (queue T n limit) (lists {T = T})) (Rule (queue T n limit)) 2
-list_laws T n limit = laws (queue T n limit) (lists {T = T}) 2 (hosts T n limit)
+pub list_laws : (T : Type 0) (n limit : ℕ) (rule : List (Event T) → Type 0) → IsTie rule → Laws (lists {T = T}).layout (host (queue_with T n limit rule) (lists {T = T})) (Rule (queue_with T n limit rule)) 2
+list_laws T n limit rule tie = laws (lawful n limit rule tie) (lists {T = T}) 2 (hosts T n limit rule)

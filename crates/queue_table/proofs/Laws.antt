@@ -1,5 +1,5 @@
 -- The queue's machine on its table, with all its laws.
-use Rattle.std.proofs.Common.{◌≡◌, ℕ, ◌+◌, ◌⊎◌, ⊎_elim, true, false, List, [], ◌∷◌, ◌++◌, length, set, refl, sym, ap, ◌∙◌, subst, arith}
+use Rattle.std.proofs.Common.{◌≡◌, ℕ, ◌+◌, ◌⊎◌, ⊎_elim, true, List, [], ◌∷◌, ◌++◌, length, set, refl, sym, ap, ◌∙◌, subst, arith}
 use Rattle.std.proofs.lemmas.Bool.{false≢true}
 use Rattle.std.specs.Prelude.{None}
 use mathlib.Core.Option.{Option, some}
@@ -24,13 +24,17 @@ use Rattle.queue_machine.proofs.StepKinds.{Alike, good_goes}
 use Rattle.queue_machine.proofs.Step.{step_kept}
 use Rattle.queue_machine.proofs.Tells.{tells_kept, step_apart}
 use Rattle.queue_machine.proofs.Doing.{begins, meanwhile, step_does}
-use Rattle.running.specs.Machine.{Laws, Machine}
+use Rattle.running.specs.Laws.{Laws, Lawful}
+use Rattle.running.specs.Ties.{IsTie}
 use Rattle.running.proofs.Uniting.{alike as all_same}
 use Rattle.queue_table.specs.declared.operation.Operation.{Operation}
 use Rattle.queue_table.specs.declared.operation.Operation.TheVariants.{Put as PutFirst}
-use Rattle.queue_table.specs.Lines.{names, call_of, first_line}
-use Rattle.queue_table.specs.Core.{core}
+use Rattle.queue_table.specs.Lines.{begins_busy, names, call_of, first_line}
+use Rattle.queue_table.specs.Core.{core, queue_with}
 use Rattle.queue_table.proofs.Does.{does}
+use Rattle.queue_table.proofs.Effects.{queue_effects}
+-- callers' proofs may name the machine from here too
+pub use Rattle.queue_table.specs.Core.{queue}
 
 module _ {T : Type 0} where
   -- a line that holds nothing and is of no put that has its cell
@@ -61,10 +65,6 @@ module _ {T : Type 0} where
   first_fine : (limit : ℕ) (m : Memory T) (g : Lists) (o : Operation T) → IsFine limit m g (first_line o)
   first_fine limit m g (PutFirst v) = tt
   first_fine limit m g o = tt
-
-  starts : (o : Operation T) → is_idle (first_line o) ≡ false
-  starts (PutFirst v) = refl
-  starts o = refl
 
   first_tells : (n limit : ℕ) (h : List (Event T)) (o : Operation T) → Tells n limit h h (first_line o)
   first_tells n limit h (PutFirst v) = tt
@@ -129,10 +129,7 @@ module _ {T : Type 0} (n limit : ℕ) where
 
   pub laws : Laws {T = T} names (core T n limit)
   laws = record {
-    rests = λ l. refl;
-    calm = λ l. refl;
     fresh = λ p. refl;
-    starts = λ o rest. starts o;
     stocked = tt;
     gives_quiet = λ out l is more. refl;
     gives_stock = λ out l is more. tt;
@@ -140,7 +137,7 @@ module _ {T : Type 0} (n limit : ℕ) where
     empty = λ l e. ap length (idle_empty l e).cells;
     begins = λ m s o idle. goes_empty m s.who s.lines s.history s.seat s.line (first_line o) s.good s.here (idle_empty s.line idle) (first_empty o) (λ g. first_fine limit m g o);
     quiets = λ m s idle. goes_empty m s.who s.lines s.history s.seat s.line (Idle None) s.good s.here (idle_empty s.line idle) (idle_empty (Idle None) refl) (λ g. tt);
-    reseats = λ m r. record { lists = r.good.lists; good = reseated n limit m r.good.lists r.who r.who' r.lines r.lines' r.history r.good.good (all_same (Idle None) is_idle (λ o rest. first_line o) (core T n limit) r.lines r.lines' r.shared) r.hands r.alone };
+    reseats = λ m r. record { lists = r.good.lists; good = reseated n limit m r.good.lists r.who r.who' r.lines r.lines' r.history r.good.good (all_same (Idle None) is_idle (λ o rest. first_line o) (λ i. true) (λ o rest. begins_busy o) (core T n limit) r.lines r.lines' r.shared) r.hands r.alone };
     kept = λ m t. step_kept n limit m t.at.who t.at.lines t.at.history t.at.seat t.pass t.is t.at.good t.at.line t.at.here;
     legal = λ m of lines h k. k.good.told.legal;
     hands = λ m t. t.at.good.good.told.hands t.at.seat t.pass t.at.line t.at.here t.is;
@@ -151,8 +148,10 @@ module _ {T : Type 0} (n limit : ℕ) where
     first_tells = λ h o rest. first_tells n limit h o;
     unheld = λ m s p. wins_unheld s.good.good s.seat p s.line s.here;
     free = λ m s o line idle seats. tt;
+    effects = λ o m s d. queue_effects n limit o m s d;
     does = λ words homes t sane. does n limit words homes sane t.pass t.at.who t.at.lines t.at.history t.at.seat t.at.good t.is t.at.line t.at.here;
   }
 
-abbrev pub queue : (T : Type 0) (n limit : ℕ) → Machine T (Line T) (Operation T) names
-queue T n limit = record { core = core T n limit; laws = laws n limit }
+  -- with any rule of a client
+  pub lawful : (rule : List (Event T) → Type 0) → IsTie rule → Lawful (queue_with T n limit rule)
+  lawful rule tie = record { laws = laws; tie = tie }

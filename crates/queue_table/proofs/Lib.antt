@@ -1,5 +1,6 @@
 pub mod Memories
 pub mod Does
+pub mod Effects
 pub mod Laws
 pub mod Opening
 pub mod Hosts

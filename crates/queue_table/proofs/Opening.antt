@@ -19,7 +19,9 @@ use Rattle.queue_machine.specs.Machine.{Memory, start_nlink, start}
 use Rattle.queue_machine.specs.Answers.{shape}
 use Rattle.queue_machine.specs.Rule.{Kept}
 use Rattle.queue_machine.proofs.Start.{start_kept}
+use Rattle.bounded_model.specs.declared.history.Event.{Event}
 use Rattle.running.specs.Rule.{Rule}
+use Rattle.running.specs.Ties.{IsTie}
 use Rattle.running.proofs.Acts.{led_first}
 use Rattle.running.proofs.Newest.{newest_first}
 use Rattle.running.proofs.Opening.{empties, home_start, home_past, homes_start, first_who, nobody, below_or_not}
@@ -27,8 +29,8 @@ use Rattle.queue_table.specs.Layout.{cells_at, nodes_at, head_at, tail_at, clink
 use Rattle.queue_machine.specs.declared.lines.Number.{Number}
 use Rattle.queue_machine.specs.declared.lines.Number.TheVariants.{CellLink, NodeLink, Cell}
 use Rattle.queue_table.specs.Memories.{memory_of, at_home}
-use Rattle.queue_table.specs.Core.{core}
-use Rattle.queue_table.proofs.Laws.{laws, queue}
+use Rattle.queue_table.specs.Core.{core, queue_with}
+use Rattle.queue_table.proofs.Laws.{laws}
 
 -- the word of index i in this part of its four
 part_of : (n i r at : ℕ) → at ≡ 80 + 4 * i + r → r < 4 → start_at n at ≡ start_of n r i
@@ -108,8 +110,8 @@ module _ {T : Type 0} (n limit : ℕ) (ws : List ℕ) (some_cell : 0 < n) (small
     alone = λ q r p e _. absurd (nobody T (Idle None) q p e);
   })
 
-  opens_all : Rule {names = _} (queue T n limit) (opening ws (replicate n None) (first_view (Idle None)))
-  opens_all = record {
+  opens_all : (rule : List (Event T) → Type 0) → IsTie rule → Rule {names = _} (queue_with T n limit rule) (opening ws (replicate n None) (first_view (Idle None)))
+  opens_all rule tie = record {
     history = [];
     good = good;
     seated = seated_first (shape n limit) (core T n limit).holding (Idle None);
@@ -119,11 +121,12 @@ module _ {T : Type 0} (n limit : ℕ) (ws : List ℕ) (some_cell : 0 < n) (small
       homes_are = homes_start T n;
       plain = plain_at n ws small long is;
     };
-    led = led_first (queue T n limit) (memory_of ws (empties T n)) first_is;
+    led = led_first (queue_with T n limit rule) (laws n limit) (memory_of ws (empties T n)) first_is;
+    tied = tie.first;
   }
 
 -- words that are given one after another, and a number of slots
-pub opens : (T : Type 0) (n limit : ℕ) (ws items : List ℕ) → ws ≡ items → 0 < n → n < NULL → 0 < limit → length items ≡ words_for n → ((k : ℕ) → k < words_for n → slice_index items k ≡ start_at n k) → (count : ℕ) → count ≡ n
-    → Rule {names = _} (queue T n limit) (opening ws (replicate count None) (first_view (Idle None)))
-opens T n limit ws items e some_cell small some_tag long is count same = subst (λ (k : ℕ). Rule {names = _} (queue T n limit) (opening ws (replicate k None) (first_view (Idle None)))) (sym same)
-    (opens_all n limit ws some_cell small some_tag (ap length e ∙ long) (λ k h. ap (λ (l : List ℕ). slice_index l k) e ∙ is k h))
+pub opens : (T : Type 0) (n limit : ℕ) (rule : List (Event T) → Type 0) → IsTie rule → (ws items : List ℕ) → ws ≡ items → 0 < n → n < NULL → 0 < limit → length items ≡ words_for n → ((k : ℕ) → k < words_for n → slice_index items k ≡ start_at n k) → (count : ℕ) → count ≡ n
+    → Rule {names = _} (queue_with T n limit rule) (opening ws (replicate count None) (first_view (Idle None)))
+opens T n limit rule tie ws items e some_cell small some_tag long is count same = subst (λ (k : ℕ). Rule {names = _} (queue_with T n limit rule) (opening ws (replicate k None) (first_view (Idle None)))) (sym same)
+    (opens_all n limit ws some_cell small some_tag (ap length e ∙ long) (λ k h. ap (λ (l : List ℕ). slice_index l k) e ∙ is k h) rule tie)

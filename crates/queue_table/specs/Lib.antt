@@ -1,5 +1,6 @@
 pub mod Layout
 pub mod Lines
 pub mod Memories
+pub mod Effects
 pub mod Core
 pub mod Lists

@@ -1,5 +1,5 @@
 -- What the code knows at a line of the queue.
-use Rattle.std.specs.Prelude.{◌≡◌, ◌≢◌, ℕ, ◌+◌, ◌<◌, ◌≤◌, List, [], ◌∷◌, Option as Slot, Some, None}
+use Rattle.std.specs.Prelude.{◌≡◌, ◌≢◌, ℕ, ◌+◌, ◌<◌, ◌≤◌, true, false, List, [], ◌∷◌, Option as Slot, Some, None}
 use Rattle.tagged_index.specs.Fields.{fields_of, index_of}
 use Rattle.tagged_index.specs.declared.word.TheConstants.{NULL}
 use Rattle.bounded_model.specs.declared.views.Answered.{Answered}
@@ -46,8 +46,21 @@ module _ {T : Type 0} where
   abbrev pub first_line : Operation T → Line T
   first_line o = starts (call_of o)
 
+  -- no operation begins idle
+  pub begins_busy : (o : Operation T) → is_idle (first_line o) ≡ false
+  begins_busy (PutFirst v) = λ i. false
+  begins_busy o = λ i. false
+
   abbrev pub names : Names (Line T) (Operation T)
-  names = record { shares = all_alike (Idle None); is_idle = is_idle; quiet = λ l. Idle None; first = λ o rest. first_line o }
+  names = record {
+    shares = all_alike (Idle None);
+    is_idle = is_idle;
+    quiet = λ l. Idle None;
+    first = λ o rest. first_line o;
+    rests = λ l i. true;
+    calm = λ l i. Idle None;
+    starts = λ o rest. begins_busy o;
+  }
 
   -- the next line, by the word found and the slots moved
   abbrev pub next : ℕ → Line T → ℕ → List (ℕ × Slot T) → Line T

@@ -7,7 +7,7 @@ use Rattle.ring_queue.specs.declared.code.closing.Mark.TheVariants.{Closed, Shut
 use Rattle.ring_queue.specs.declared.code.closing.MarkAt.{MarkAt}
 use Rattle.ring_queue.specs.declared.code.closing.MarkAt.TheVariants.{Walking, Setting}
 use Rattle.ring_queue.specs.code.Machine.{Answered}
-use Rattle.ring_queue.specs.Calls.{RingQueue, room_of, laps_of, machine_of}
+use Rattle.ring_queue.specs.Calls.{RingWith, room_of, laps_of, machine_of}
 use Rattle.ring_queue.specs.declared.code.walking.Found.{Found}
 use Rattle.ring_queue.specs.declared.code.walking.WalkAt.{WalkAt}
 use Rattle.ring_queue.specs.declared.code.walking.WalkAt.TheVariants.{LoadSlot}
@@ -29,7 +29,7 @@ setting_busy : (T : Type 0) (mark : Mark) (end : Found) → is_idle (mark_line {
 setting_busy T Closed end = refl
 setting_busy T Shut end = refl
 
-module _ {T : Type 0} (c : RingQueue T) {s : MarkAt} {mark : Mark} {at : WalkAt} (is : s ≡ Walking mark at) (r : Outcome) (has : List (ℕ × Slot T)) (came : Came (machine_of c).core (At (mark_line s)) r [] has) where
+module _ {T : Type 0} {D : Type 0} (c : RingWith T D) {s : MarkAt} {mark : Mark} {at : WalkAt} (is : s ≡ Walking mark at) (r : Outcome) (has : List (ℕ × Slot T)) (came : Came (machine_of c).core (At (mark_line s)) r [] has) where
   abbrev pub Marking : Next MarkAt (Answered Bool) → Type 0
   Marking next = LeadsTo c (mark_account c.table.shared.key) s r has has next
 
@@ -56,7 +56,7 @@ module _ {T : Type 0} (c : RingQueue T) {s : MarkAt} {mark : Mark} {at : WalkAt}
     mark_meets e = mark_ends false e (On (Setting mark end)) (λ l to hand known. record { same = sym named; is = to; busy = setting_busy T mark end; hand = hand; knows = (known.slot, known.short, known.place) })
 
 -- Where the compare-and-swap leads it that was to set the mark
-module _ {T : Type 0} (c : RingQueue T) (end : Found) (r : Outcome) (has : List (ℕ × Slot T)) where
+module _ {T : Type 0} {D : Type 0} (c : RingWith T D) (end : Found) (r : Outcome) (has : List (ℕ × Slot T)) where
   abbrev SetTo : Mark → Next MarkAt (Answered Bool) → Type 0
   SetTo mark next = LeadsTo c (mark_account c.table.shared.key) (Setting mark end) r has has next
 

@@ -5,7 +5,7 @@ use Rattle.ring_queue.specs.Prelude.{At, Came, Done, Next, On, Outcome, ToCount,
 use Rattle.ring_queue.specs.declared.code.counting.LenAt.{LenAt}
 use Rattle.ring_queue.specs.declared.code.counting.LenAt.TheVariants.{ToFront, ToBack, CheckFront}
 use Rattle.ring_queue.specs.code.Machine.{Answered}
-use Rattle.ring_queue.specs.Calls.{RingQueue, room_of, machine_of}
+use Rattle.ring_queue.specs.Calls.{RingWith, room_of, machine_of}
 use Rattle.ring_queue.specs.declared.code.walking.Found.{Found}
 use Rattle.ring_queue.specs.declared.code.walking.WalkAt.{WalkAt}
 use Rattle.ring_queue.specs.declared.code.walking.WalkAt.TheVariants.{LoadHint}
@@ -14,7 +14,7 @@ use Rattle.ring_queue.specs.code.Walking.{to_back, to_front}
 use Rattle.ring_queue.specs.code.Steps.{WalkedTo}
 use Rattle.ring_queue.proofs.Walks.{busy, LeadsTo, walk_goes, walk_ends}
 
-module _ {T : Type 0} (c : RingQueue T) (s : LenAt) (at : WalkAt) (r : Outcome) (has : List (ℕ × Slot T)) (came : Came (machine_of c).core (At (len_line s)) r [] has) where
+module _ {T : Type 0} {D : Type 0} (c : RingWith T D) (s : LenAt) (at : WalkAt) (r : Outcome) (has : List (ℕ × Slot T)) (came : Came (machine_of c).core (At (len_line s)) r [] has) where
   abbrev pub Counting : Next LenAt (Answered ℕ) → Type 0
   Counting next = LeadsTo c (len_account c.table.shared.key) s r has has next
 

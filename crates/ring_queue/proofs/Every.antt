@@ -7,7 +7,7 @@ use Rattle.ring_queue.specs.code.Closing.{answer_of, mark_account, mark_of_step,
 use Rattle.ring_queue.specs.code.Every.{every_account, every_answer, every_line, every_slots}
 use Rattle.ring_queue.specs.code.Looking.{look_account}
 use Rattle.ring_queue.specs.code.Putting.{Answer as PutAnswer, put_account}
-use Rattle.ring_queue.specs.Calls.{RingQueue, machine_of, room_of}
+use Rattle.ring_queue.specs.Calls.{RingWith, machine_of, room_of}
 use Rattle.ring_queue.specs.code.Machine.{Answered}
 use Rattle.ring_queue.specs.code.Taking.{Answer as TakeAnswer, take_account}
 use Rattle.ring_queue.specs.declared.code.closing.Mark.{Mark}
@@ -25,7 +25,7 @@ every at said (On s) = On (at s)
 every at said (Lost s) = Lost (at s)
 every at said (Done a) = Done (record { kept = a.kept; reply = said a.reply })
 
-module _ {T : Type 0} (c : RingQueue T) where
+module _ {T : Type 0} {D : Type 0} (c : RingWith T D) where
   abbrev pub Every : RingAt T → Outcome → List (ℕ × Slot T) → List (ℕ × Slot T) → Next (RingAt T) (Answered (Reply T)) → Type 0
   Every s r has after to = Finding (machine_of c).core (every_line (room_of c) s) r (every_slots s) has (λ found came. Leads names (every_account c.table.shared.key) s ((machine_of c).core.next (every_line (room_of c) s) found came) after to)
 

@@ -5,7 +5,7 @@ use Rattle.ring_queue.specs.Prelude.{Came, Done, Next, On, Outcome, ToGauge, fie
 use Rattle.ring_queue.specs.declared.calls.gauging.Gauge.{Gauge}
 use Rattle.ring_queue.specs.declared.code.gauging.GaugeAt.{GaugeAt}
 use Rattle.ring_queue.specs.code.Machine.{Answered}
-use Rattle.ring_queue.specs.Calls.{RingQueue, machine_of, room_of}
+use Rattle.ring_queue.specs.Calls.{RingWith, machine_of, room_of}
 use Rattle.ring_queue.specs.declared.code.walking.Found.{Found}
 use Rattle.ring_queue.specs.declared.code.walking.WalkAt.{WalkAt}
 use Rattle.ring_queue.specs.code.Gauging.{gauge_account, gauge_line}
@@ -13,7 +13,7 @@ use Rattle.ring_queue.specs.code.Walking.{to_back}
 use Rattle.ring_queue.specs.code.Steps.{WalkedTo}
 use Rattle.ring_queue.proofs.Walks.{busy, LeadsTo, walk_goes, walk_ends}
 
-module _ {T : Type 0} (c : RingQueue T) (s : GaugeAt) (r : Outcome) (has : List (ℕ × Slot T)) (came : Came (machine_of c).core (gauge_line s) r [] has) where
+module _ {T : Type 0} {D : Type 0} (c : RingWith T D) (s : GaugeAt) (r : Outcome) (has : List (ℕ × Slot T)) (came : Came (machine_of c).core (gauge_line s) r [] has) where
   abbrev pub Gauging : Next GaugeAt (Answered Gauge) → Type 0
   Gauging next = LeadsTo c (gauge_account c.table.shared.key) s r has has next
 

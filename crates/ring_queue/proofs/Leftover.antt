@@ -25,7 +25,7 @@ use Rattle.ring_table.specs.Core.{shape_for}
 use Rattle.ring_table.specs.Memories.{memory_of}
 use Rattle.ring_table.proofs.Shapes.{state_same, legal_same}
 use Rattle.ring_table.specs.Seats.{passes_of}
-use Rattle.ring_queue.specs.Prelude.{Event, Line, Memory, RootView, SeatLine, View, full_at, names, place, ring_on}
+use Rattle.ring_queue.specs.Prelude.{Event, Line, Memory, RootView, SeatLine, View, full_at, names, place, ring_with}
 use Rattle.ring_queue.specs.code.Left.{next_slot, cell_at, HasTaken, IsFront, in_front, values_from}
 
 pub word_at : (words : List ℕ) (i n : ℕ) → get_elem? words i ≡ some n → slice_index words i ≡ n
@@ -179,9 +179,9 @@ module _ {T : Type 0} where
         })
 
   -- what a table that was closed with the root's seat has left; n' is the ring's capacity as the code has it
-  pub leaves_all : {root : SeatLine T} {ks : Acts (SeatLine T)} (n laps passes id n' : ℕ) (v : View T (SeatLine T)) (r : RootView T) (words : List ℕ) (cells : List (Slot T)) → n' ≡ n → (final : Final (Seen (Rule (ring_on T n laps passes)) id v) words cells) → v ≡ AtRoot r ks nothing root → IsSound (shape_for T n laps passes) r
+  pub leaves_all : {root : SeatLine T} {ks : Acts (SeatLine T)} (rule : List (Event T) → Type 0) (n laps passes id n' : ℕ) (v : View T (SeatLine T)) (r : RootView T) (words : List ℕ) (cells : List (Slot T)) → n' ≡ n → (final : Final (Seen (Rule (ring_with T n laps passes rule)) id v) words cells) → v ≡ AtRoot r ks nothing root → IsSound (shape_for T n laps passes) r
       → (takes : ℕ) × HasTaken n' takes words × ((i : ℕ) → i < n' → IsFront n' takes i → Leaves (shape_for T n laps passes) r (values_from n' words n' cells i) × (values_from n' words n' cells i ≡ (bounded.state (shape_for T n laps passes) final.1.0.history).values))
-  leaves_all n laps passes id n' v r words cells many final is sound =
+  leaves_all rule n laps passes id n' v r words cells many final is sound =
       let rule = final.1.0 in
       let s = final.0 in
       let h : List (Event T) = rule.history in

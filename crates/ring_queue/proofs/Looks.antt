@@ -4,7 +4,7 @@ use Rattle.std.specs.Prelude.{Option as Slot}
 use Rattle.ring_queue.specs.Prelude.{Came, Done, Next, On, Outcome, ToLook, tag_of}
 use Rattle.ring_queue.specs.declared.code.looking.LookAt.{LookAt}
 use Rattle.ring_queue.specs.code.Machine.{Answered}
-use Rattle.ring_queue.specs.Calls.{RingQueue, machine_of}
+use Rattle.ring_queue.specs.Calls.{RingWith, machine_of}
 use Rattle.ring_queue.specs.declared.code.walking.Found.{Found}
 use Rattle.ring_queue.specs.declared.code.walking.WalkAt.{WalkAt}
 use Rattle.ring_queue.specs.code.Looking.{look_account, look_line}
@@ -12,7 +12,7 @@ use Rattle.ring_queue.specs.code.Walking.{to_front}
 use Rattle.ring_queue.specs.code.Steps.{WalkedTo}
 use Rattle.ring_queue.proofs.Walks.{busy, LeadsTo, walk_goes, walk_ends}
 
-module _ {T : Type 0} (c : RingQueue T) (s : LookAt) (r : Outcome) (has : List (ℕ × Slot T)) (came : Came (machine_of c).core (look_line s) r [] has) where
+module _ {T : Type 0} {D : Type 0} (c : RingWith T D) (s : LookAt) (r : Outcome) (has : List (ℕ × Slot T)) (came : Came (machine_of c).core (look_line s) r [] has) where
   abbrev pub Looking : Next LookAt (Answered Bool) → Type 0
   Looking next = LeadsTo c (look_account c.table.shared.key) s r has has next
 

@@ -9,7 +9,7 @@ use Rattle.ring_queue.specs.Prelude.{AnswerPut, At, Came, Closed, Done, Full, Li
 use Rattle.ring_queue.specs.Prelude.{ToPut, fields_of, index_of, mark_of, tag_of}
 use Rattle.ring_queue.specs.declared.code.putting.PutAt.{PutAt}
 use Rattle.ring_queue.specs.declared.code.putting.PutAt.TheVariants.{Walking, Exchange, Stow}
-use Rattle.ring_queue.specs.Calls.{RingQueue, laps_of, machine_of}
+use Rattle.ring_queue.specs.Calls.{RingWith, laps_of, machine_of}
 use Rattle.ring_queue.specs.declared.code.walking.Found.{Found}
 use Rattle.ring_queue.specs.declared.code.walking.WalkAt.{WalkAt}
 use Rattle.ring_queue.specs.code.Machine.{put_of}
@@ -59,7 +59,7 @@ module _ {T : Type 0} where
   unfolding value_or
   same_value zs us vs i j x y e f = sym (ap (value_or x) e) ∙ ap (value_or x) f
 
-module _ {T : Type 0} (c : RingQueue T) {s : PutAt T} {at : WalkAt} (shown : Snapshot T) (is : s ≡ Walking shown at) (r : Outcome) (has : List (ℕ × Slot T)) (came : Came (machine_of c).core (At (put_line s)) r (put_slots s) has) where
+module _ {T : Type 0} {D : Type 0} (c : RingWith T D) {s : PutAt T} {at : WalkAt} (shown : Snapshot T) (is : s ≡ Walking shown at) (r : Outcome) (has : List (ℕ × Slot T)) (came : Came (machine_of c).core (At (put_line s)) r (put_slots s) has) where
   abbrev pub Putting : List (ℕ × Slot T) → Next (PutAt T) (Answer T) → Type 0
   Putting has' next = LeadsTo c (put_account c.table.shared.key) s r has has' next
 

@@ -1,17 +1,15 @@
 -- Where a take goes on.
-use Rattle.std.proofs.Common.{◌≡◌, ℕ, ◌+◌, ◌*◌, ◌<◌, Bool, true, false, cond, eqb, List, [], refl, sym, ap, ◌∙◌, subst, arith}
-use Rattle.std.proofs.Math.Nat.{mul-div-le}
+use Rattle.std.proofs.Common.{◌≡◌, ℕ, ◌+◌, ◌*◌, Bool, true, false, cond, eqb, List, [], refl, sym, ap, ◌∙◌, subst, arith}
 use Rattle.std.proofs.lemmas.Bool.Decides.{nat_tests}
 use Rattle.std.proofs.lemmas.Option.{none-some}
 use Rattle.std.specs.Prelude.{Option as Slot, Some, None, Err}
-use Rattle.ring_queue.specs.Prelude.{AnswerTake, At, Came, Done, Limits, Line, MAX_TAG, Next, On, Outcome, TakeCell, TakeClosed, TakeEmpty}
+use Rattle.ring_queue.specs.Prelude.{AnswerTake, At, Came, Done, Line, Next, On, Outcome, TakeCell, TakeClosed, TakeEmpty}
 use Rattle.ring_queue.specs.Prelude.{TakeRefused, TakeShut, ToTake, ends, fields_of, mark_of, second_of, tag_of}
-use Rattle.ring_queue.specs.Calls.{RingQueue, room_of, machine_of}
+use Rattle.ring_queue.specs.Calls.{RingWith, room_of, machine_of}
 use Rattle.ring_queue.specs.declared.code.taking.TakeAt.{TakeAt}
 use Rattle.ring_queue.specs.declared.code.taking.TakeAt.TheVariants.{Walking, Exchange}
 use Rattle.ring_queue.specs.declared.code.walking.Found.{Found}
 use Rattle.ring_queue.specs.declared.code.walking.WalkAt.{WalkAt}
-use Rattle.ring_queue.specs.code.Machine.{laps_at}
 use Rattle.ring_queue.specs.code.Taking.{Answer, refusal_at, take_account, take_line, take_slots}
 use Rattle.ring_queue.specs.code.Walking.{to_front, walk_line, line_of}
 use Rattle.ring_queue.specs.code.Steps.{WalkedTo}
@@ -37,7 +35,7 @@ full_at_front false true mark e = refl
 full_at_front false false true e = absurd (none-some TakeClosed (sym e))
 full_at_front false false false e = absurd (none-some TakeEmpty (sym e))
 
-module _ {T : Type 0} (c : RingQueue T) {s : TakeAt T} {at : WalkAt} (is : s ≡ Walking at) (r : Outcome) (has : List (ℕ × Slot T)) (came : Came (machine_of c).core (At (take_line (room_of c) s)) r (take_slots s) has) where
+module _ {T : Type 0} {D : Type 0} (c : RingWith T D) {s : TakeAt T} {at : WalkAt} (is : s ≡ Walking at) (r : Outcome) (has : List (ℕ × Slot T)) (came : Came (machine_of c).core (At (take_line (room_of c) s)) r (take_slots s) has) where
   abbrev pub Taking : Next (TakeAt T) (Answer T) → Type 0
   Taking next = LeadsTo c (take_account c.table.shared.key) s r has has next
 

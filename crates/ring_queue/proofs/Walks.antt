@@ -4,7 +4,7 @@ use Rattle.std.specs.Prelude.{Option as Slot}
 use Rattle.running.specs.Code.{CameBy, FindingBy, GoesTo}
 use Rattle.running.specs.Machine.{Core, Access as Deed, rests, loads, fetches, stows, stores, swaps}
 use Rattle.ring_queue.specs.Prelude.{Account, At, Came, Done, Finding, Leads, Next, On, Operation, Outcome, SeatLine, finding, is_idle, names}
-use Rattle.ring_queue.specs.Calls.{RingQueue, machine_of}
+use Rattle.ring_queue.specs.Calls.{RingWith, machine_of}
 use Rattle.ring_queue.specs.declared.code.walking.Found.{Found}
 use Rattle.ring_queue.specs.declared.code.walking.WalkAt.{WalkAt}
 use Rattle.ring_queue.specs.declared.code.walking.WalkAt.TheVariants.{LoadHint, LoadSlot, MoveHint}
@@ -29,7 +29,7 @@ module _ {T L O : Type 0} (c : Core T L O) (l : L) (r : Outcome) (had has : List
   anyway (stores at x) came shown = shown came.0
   anyway (swaps at old new side) came shown = shown came.0 came.1 came.2
 
-module _ {T S A : Type 0} (c : RingQueue T) (a : Account T (SeatLine T) (Operation T) S A) (s : S) where
+module _ {T S A : Type 0} {D : Type 0} (c : RingWith T D) (a : Account T (SeatLine T) (Operation T) S A) (s : S) where
   abbrev core : Core T (SeatLine T) (Operation T)
   core = (machine_of c).core
 

@@ -7,7 +7,7 @@ use Rattle.tagged_index.specs.Limits as limits
 use Rattle.running.specs.Machine as running
 use Rattle.running.specs.Passes as passes
 use Rattle.bounded_model.specs.declared.views.Answered.TheVariants as answered
-use Rattle.ring_queue.specs.Prelude.{Adds, Answer, Answers, At, Close, Command, Full, HasAllPuts, HasAllValues, HasRun, IsGauged, IsOpen, IsUnderWay}
+use Rattle.ring_queue.specs.Prelude.{Adds, Answer, Answers, At, Close, Command, Event, Free, Full, HasAllPuts, HasAllValues, HasRun, IsGauged, IsOpen, IsUnderWay}
 use Rattle.ring_queue.specs.Prelude.{Limits, Look, LookGives, Makes, MatchStepped, Note, Op, Operation, PassView, PassWith, Put, PutGives, PutRefused}
 use Rattle.ring_queue.specs.Prelude.{RootView, RootWith, SeatLine, Shape, Shut, Sometime, Spent, Stepped, Stock, Take, TakeGives, TakeRefused}
 use Rattle.ring_queue.specs.Prelude.{Underway, WasRunBy, begun_of, capacity_of, ends, names, passes_of as passes_at, put_answered, resting}
@@ -21,7 +21,7 @@ use Rattle.ring_queue.specs.declared.code.looking.LookAt.{LookAt}
 use Rattle.ring_queue.specs.declared.code.counting.LenAt.{LenAt}
 use Rattle.ring_queue.specs.declared.code.gauging.GaugeAt.{GaugeAt}
 use Rattle.ring_queue.specs.declared.code.every.RingAt.{RingAt}
-use Rattle.ring_queue.specs.code.Machine.{laps_at, machine_at, is_call}
+use Rattle.ring_queue.specs.code.Machine.{laps_at, machine_at, machine_for, no_rule, is_call}
 use Rattle.ring_queue.specs.code.Putting.{put_account}
 use Rattle.ring_queue.specs.code.Taking.{take_account}
 use Rattle.ring_queue.specs.code.Closing.{mark_account}
@@ -31,9 +31,12 @@ use Rattle.ring_queue.specs.code.Gauging.{gauge_account}
 use Rattle.ring_queue.specs.code.Every.{every_account}
 use Rattle.ring_queue.specs.declared.calls.gauging.Gauge.{Gauge}
 
--- a ring, its passes and its root, and the operations that its calls begin
+-- a ring whose client has given it a rule, and one with none; its passes and its root, and the operations that its calls begin
+abbrev pub RingWith : Type 0 → Type 0 → Type 0
+RingWith T D = declared.RingQueue T D
+
 abbrev pub RingQueue : Type 0 → Type 0
-RingQueue T = declared.RingQueue T
+RingQueue T = RingWith T Free
 
 abbrev pub Pass : Type 0 → Type 0
 Pass T = PassWith T (SeatLine T) Spare
@@ -87,31 +90,45 @@ root_in r = kept.root_in r
 
 module _ {T : Type 0} where
   -- how many slots it has, how often each of them can be filled, and for how many passes it is
-  abbrev pub room_of : RingQueue T → ℕ
+  abbrev pub room_of : {D : Type 0} → RingWith T D → ℕ
   room_of c = capacity_of c.table.shared.key
 
-  abbrev pub laps_of : RingQueue T → ℕ
+  abbrev pub laps_of : {D : Type 0} → RingWith T D → ℕ
   laps_of c = laps_at c.table.shared.key
 
-  abbrev pub passes_of : RingQueue T → ℕ
+  abbrev pub passes_of : {D : Type 0} → RingWith T D → ℕ
   passes_of c = limits.passes_of c.table.shared.key
 
-  abbrev pub machine_of : RingQueue T → running.Machine T (SeatLine T) (Operation T) names
+  abbrev pub machine_of : {D : Type 0} → RingWith T D → running.Machine T (SeatLine T) (Operation T) names
   machine_of c = machine_at c.table.shared.key
 
-  abbrev pub shape_of : RingQueue T → Shape
+  abbrev pub shape_of : {D : Type 0} → RingWith T D → Shape
   shape_of c = (machine_of c).core.shape
 
-  -- a pass between its operations, and a note of one of its passes
-  abbrev pub IsPassOf : RingQueue T → Pass T → Type 0
-  IsPassOf c p = kept.IsPassAt (machine_of c) keeps c.table.shared.table_id p
+  -- With a client's rule: its machine, a pass between its operations, a root between its calls, and a note of one of its passes. What they have
+  -- seen keeps the rule
+  module _ (rule : List (Event T) → Type 0) {D : Type 0} where
+    abbrev pub machine_with : RingWith T D → running.Machine T (SeatLine T) (Operation T) names
+    machine_with c = machine_for rule c.table.shared.key
 
-  -- a root between its calls
+    abbrev pub IsPassWith : RingWith T D → Pass T → Type 0
+    IsPassWith c p = kept.IsPassAt (machine_with c) keeps c.table.shared.table_id p
+
+    abbrev pub IsRootWith : RingWith T D → Root T → Type 0
+    IsRootWith c r = kept.IsRootAt (machine_with c) (Stocks c.table.shared.key) c.table.shared.table_id r
+
+    abbrev pub IsNoteWith : RingWith T D → Note T (SeatLine T) → Type 0
+    IsNoteWith c n = passes.IsNoteOn (machine_with c) c.table.shared.table_id n
+
+  -- and of a ring with none
+  abbrev pub IsPassOf : RingQueue T → Pass T → Type 0
+  IsPassOf c p = IsPassWith no_rule c p
+
   abbrev pub IsRootOf : RingQueue T → Root T → Type 0
-  IsRootOf c r = kept.IsRootAt (machine_of c) (Stocks c.table.shared.key) c.table.shared.table_id r
+  IsRootOf c r = IsRootWith no_rule c r
 
   abbrev pub IsNoteOf : RingQueue T → Note T (SeatLine T) → Type 0
-  IsNoteOf c n = passes.IsNoteOn (machine_of c) c.table.shared.table_id n
+  IsNoteOf c n = IsNoteWith no_rule c n
 
   -- a put of x, by its operation: the put of the value that the operation has is a put of x too
   abbrev pub IsPutting : RingQueue T → T → PutOp T → Type 0
@@ -145,8 +162,11 @@ module _ {T : Type 0} where
 
 -- A call of this operation was begun once, as its pass was `begun`. Since then the machine's steps of that pass, each an act of its own,
 -- led the operation from its first line to this answer. The steps that the pass has counted are these acts
+abbrev pub WasRunWith : {T : Type 0} → (List (Event T) → Type 0) → {D : Type 0} → RingWith T D → Operation T → PassView T → Pass T → Answer T → Type 0
+WasRunWith rule c o begun back answer = HasRun (machine_with rule c) o back.pass.seat.me.0 begun (At (ends back.kept.index answer))
+
 abbrev pub WasRun : {T : Type 0} → RingQueue T → Operation T → PassView T → Pass T → Answer T → Type 0
-WasRun c o begun back answer = HasRun (machine_of c) o back.pass.seat.me.0 begun (At (ends back.kept.index answer))
+WasRun c o begun back answer = WasRunWith no_rule c o begun back answer
 
 -- a ring of n slots, each of which can be filled `laps` times: a gauge changes nothing, and shows how the ring was at
 -- some time between what its pass had seen as the gauge began, v, and as it ended, w
@@ -174,6 +194,8 @@ module _ {T : Type 0} (c : RingQueue T) where
       (λ back answer. IsPassOf c back × (TakeGives (shape_of c) begun (pass_in back) answer × Answers begun (pass_in back) (answered.Take answer))
       × WasRunBy (machine_of c) (take_account c.table.shared.key) (is_call Take) begun back answer)
 
+-- why a put was refused, of a ring with any rule
+module _ {T : Type 0} {D : Type 0} (c : RingWith T D) where
   -- if it was full: at some time of the call the ring was open, and each of its slots held a value
   abbrev pub FullTells : PassView T → PassView T → Result ℕ (PutRefused T) → Type 0
   FullTells v w (Err (Full x)) = Sometime v.seen w.seen (λ h. HasAllValues (shape_of c) h × IsOpen (shape_of c) h)

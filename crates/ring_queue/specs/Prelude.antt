@@ -27,7 +27,7 @@ pub use Rattle.ring_machine.specs.declared.lines.Back.TheVariants.{ToCount, ToGa
 pub use Rattle.ring_machine.specs.declared.lines.Front.TheVariants.{ToCount as ToCountFrom, ToLook, ToTake}
 pub use Rattle.ring_machine.specs.declared.lines.Line.{Line}
 pub use Rattle.ring_machine.specs.declared.lines.Line.TheVariants.{PutCell, Stow as StowLine, TakeCell}
-pub use Rattle.ring_table.proofs.Laws.{ring_on}
+pub use Rattle.ring_table.specs.Core.{ring_with}
 pub use Rattle.ring_table.specs.Layout.{head_at, slot_at}
 pub use Rattle.ring_table.specs.Seats.{names}
 pub use Rattle.ring_table.specs.declared.line.SeatLine.{SeatLine}
@@ -49,6 +49,7 @@ pub use Rattle.running.specs.declared.kept.RootWith.{RootWith}
 pub use Rattle.running.specs.declared.op.Op.{Op}
 pub use Rattle.running.specs.declared.passes.Note.{Note}
 pub use Rattle.running.specs.declared.passes.Pass.{Pass}
+pub use Rattle.running.specs.declared.tie.Free.{Free}
 pub use Rattle.tagged_index.specs.Fields.{fields_of, index_of, mark_of, second_of, tag_of}
 pub use Rattle.tagged_index.specs.Limits.{capacity_of, passes_of}
 pub use Rattle.tagged_index.specs.declared.limit.Limits.{Limits}

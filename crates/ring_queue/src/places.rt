@@ -6,7 +6,7 @@ ghost use Rattle.ring_machine.specs.Places.{NothingTwice};
 ghost use Rattle.ring_table.specs.declared.line.SeatLine.{SeatLine};
 ghost use Rattle.ring_table.specs.Memories.{memory_of};
 ghost use Rattle.ring_table.specs.Seats.{names, passes_of};
-ghost use Rattle.ring_table.proofs.Laws.{ring_on};
+ghost use Rattle.ring_table.specs.Core.{ring_on};
 ghost use Rattle.running.specs.Rule.{Rule, line_in};
 
 /// No cell is in two places, in any table that meets the rule of a ring. Each ring's table meets it

@@ -25,13 +25,12 @@ use Rattle.ring_machine.specs.declared.lines.Answer.TheVariants.{Put as AnswerPu
 use Rattle.ring_machine.specs.declared.lines.Call.{Call}
 use Rattle.ring_machine.specs.declared.lines.Call.TheVariants.{Put as CallPut}
 use Rattle.running.specs.Going.{Ended}
-use Rattle.ring_table.specs.Core.{shape_for}
+use Rattle.ring_table.specs.Core.{ring_with, shape_for}
 use Rattle.ring_table.specs.Lines.{call_of}
 use Rattle.ring_table.specs.declared.line.SeatLine.{SeatLine}
 use Rattle.ring_table.specs.declared.line.SeatLine.TheVariants.{At}
 use Rattle.ring_table.specs.declared.operation.Operation.{Operation}
 use Rattle.ring_table.specs.declared.operation.Operation.TheVariants.{Take as TakeFirst, Close as CloseFirst, Shut as ShutFirst, Look as LookFirst, Len as LenFirst, Gauge as GaugeFirst}
-use Rattle.ring_table.proofs.Laws.{ring_on}
 use Rattle.ring_table.proofs.Shapes.{with_passes, state_same}
 
 -- an answer is right whatever passes may be out, if what it says is said of the state alone
@@ -43,9 +42,9 @@ module _ {T : Type 0} (c : Shape) (passes : ℕ) {old new : List (Event T)} (Say
 part : {T : Type 0} {old new : List (Event T)} {P Q : List (Event T) → Type 0} → ((h : List (Event T)) → P h → Q h) → Sometime old new P → Sometime old new Q
 part q s = record { at = s.at; since = s.since; until = s.until; holds = q s.at s.holds }
 
-module _ {T : Type 0} (n laps passes : ℕ) (v : View T (SeatLine T)) (begun : PassView T) (cell : ℕ) where
+module _ {T : Type 0} (rule : List (Event T) → Type 0) (n laps passes : ℕ) (v : View T (SeatLine T)) (begun : PassView T) (cell : ℕ) where
   abbrev Ends : Operation T → Answer T → Type 0
-  Ends o a = Ended (ring_on T n laps passes) o v begun (At (ends cell a))
+  Ends o a = Ended (ring_with T n laps passes rule) o v begun (At (ends cell a))
 
   right_for : (Says : State T → Type 0) → Sometime begun.seen (pass_of v).seen (λ h. Says (state (shape n laps) h)) → Sometime begun.seen (pass_of v).seen (λ h. Says (state (shape_for T n laps passes) h))
   right_for Says = still_right (shape n laps) passes Says

@@ -31,18 +31,24 @@ use Rattle.ring_machine.proofs.Tells.{tells_kept, step_apart}
 use Rattle.ring_machine.proofs.Doing.{begins, meanwhile, step_does}
 use Rattle.ring_machine.proofs.Cells.{cell_in}
 use Rattle.ring_machine.proofs.Places.{nothing_twice, wins_unheld}
-use Rattle.running.specs.Machine.{Core, Laws, Machine, Shared, Cuts, Unites}
+use Rattle.running.specs.Machine.{Core, Shared, Cuts, Unites}
+use Rattle.running.specs.Laws.{Laws, Lawful}
+use Rattle.running.specs.Ties.{Adds, IsTie}
 use Rattle.ring_table.specs.declared.line.SeatLine.{SeatLine}
 use Rattle.ring_table.specs.declared.line.SeatLine.TheVariants.{At, Stock}
 use Rattle.ring_table.specs.declared.operation.Operation.{Operation}
 use Rattle.ring_table.specs.Lines.{call_of}
 use Rattle.ring_table.specs.Seats.{passes_of, each_resting, cells_from, names, quiet, first, gives, takes, both, is_idle, IsStock, deed_at}
+use Rattle.ring_table.specs.Effects.{effect}
 use Rattle.ring_table.specs.Free.{IsFree, FreeAt}
-use Rattle.ring_table.specs.Core.{cells, core, DeedsAt, TellsAt, WinsUnheldAt}
+use Rattle.ring_table.specs.Core.{cells, core, ring_with, DeedsAt, TellsAt, WinsUnheldAt}
 use Rattle.ring_table.proofs.Seats.{Found, found, Same, same_all, Halves, same_cut, Whole, same_union, rests_with}
 use Rattle.ring_table.proofs.Shapes.{state_same, legal_same}
 use Rattle.ring_table.proofs.Lifted.{Alike, does_alike}
 use Rattle.ring_table.proofs.Does.{does}
+use Rattle.ring_table.proofs.Effects.{ring_effects}
+-- callers' proofs may name the machine from here too
+pub use Rattle.ring_table.specs.Core.{ring_on}
 
 cells_many : (c k : ℕ) → length (cells_from c k) ≡ k
 cells_many c zero = refl
@@ -69,15 +75,6 @@ module _ {T : Type 0} where
   first_cell c CallLen = refl
   first_cell c CallGauge = refl
 
-  starts_busy : (call : Call T) (l : Line T) → ring.is_idle (starts call l) ≡ false
-  starts_busy (CallPut v) l = refl
-  starts_busy CallTake l = refl
-  starts_busy CallClose l = refl
-  starts_busy CallShut l = refl
-  starts_busy CallLook l = refl
-  starts_busy CallLen l = refl
-  starts_busy CallGauge l = refl
-
   idle_home : (l : Line T) → ring.is_idle l ≡ true → is_home l ≡ true
   idle_home (Idle c a) idle = refl
   idle_home l idle = absurd (false≢true idle)
@@ -92,18 +89,6 @@ module _ {T : Type 0} where
   first_tells n laps c CallGauge seen = tt
 
   -- Lines of seats
-
-  quiet_rests : (s : SeatLine T) → is_idle (quiet s) ≡ true
-  quiet_rests (At l) = refl
-  quiet_rests (Stock cs) = refl
-
-  quiet_stays : (s : SeatLine T) → quiet (quiet s) ≡ quiet s
-  quiet_stays (At l) = refl
-  quiet_stays (Stock cs) = refl
-
-  starts_at : (o : Operation T) (s : SeatLine T) → is_idle (first o s) ≡ false
-  starts_at o (At l) = starts_busy (call_of o) l
-  starts_at o (Stock cs) = refl
 
   given_quiet : (s : SeatLine T) → quiet (gives s).1 ≡ (gives s).1
   given_quiet (At l) = refl
@@ -303,6 +288,10 @@ module _ {T : Type 0} (n laps passes : ℕ) where
   apart_good m p (At l) h q ne = ap (λ (es : List (Event T)). own q (es ++ h)) (does_alike memories (resting (cell_of l)) m p l (table n (2 * laps) l)).events ∙ step_apart n laps m p q ne h l
   apart_good m p (Stock cs) h q ne = refl
 
+  effects_at : (o : Operation T) (m : Memory T) (s : SeatLine T) (p : PassView T) (begun h : List (Event T)) → DeedsAt n o p.number s begun p.seen → Saw h p → Adds (effect o p.number) p.number begun h ((core T n laps passes).adds m p.number s)
+  effects_at o m (At l) p begun h d saw = subst (Adds (effect o p.number) p.number begun h) (sym (does_alike memories (resting (cell_of l)) m p.number l (table n (2 * laps) l)).events) (ring_effects n laps m p (call_of o) begun h l d saw)
+  effects_at o m (Stock cs) p begun h d saw = tt
+
   first_deeds : (p : ℕ) (h : List (Event T)) (o : Operation T) (s : SeatLine T) → DeedsAt n o p (first o s) h h
   first_deeds p h o (At l) = begins n p h (cell_of l) (call_of o)
   first_deeds p h o (Stock cs) = tt
@@ -313,10 +302,7 @@ module _ {T : Type 0} (n laps passes : ℕ) where
 
   pub laws : Laws {T = T} names (core T n laps passes)
   laws = record {
-    rests = quiet_rests;
-    calm = quiet_stays;
     fresh = λ p. refl;
-    starts = starts_at;
     stocked = let many = cells_many n passes in omega arith;
     gives_quiet = λ out s is more. given_quiet s;
     gives_stock = gives_stock passes;
@@ -335,8 +321,10 @@ module _ {T : Type 0} (n laps passes : ℕ) where
     first_tells = tells_first;
     unheld = λ m s p. unheld_good m s.lines s.history s.seat s.good p s.line s.here;
     free = λ m s o line idle seat_of. free_good m s.lines s.history s.seat s.good line seat_of o s.line s.here idle;
+    effects = λ o m s d. effects_at o m s.at.line s.pass s.begun s.at.history d s.saw;
     does = λ words homes t sane. does n laps passes words homes sane t.pass t.at.lines t.at.history t.at.seat t.at.good t.at.line t.at.here;
   }
 
-abbrev pub ring_on : (T : Type 0) (n laps passes : ℕ) → Machine T (SeatLine T) (Operation T) names
-ring_on T n laps passes = record { core = core T n laps passes; laws = laws n laps passes }
+  -- with any rule of a client
+  pub lawful : (rule : List (Event T) → Type 0) → IsTie rule → Lawful (ring_with T n laps passes rule)
+  lawful rule tie = record { laws = laws; tie = tie }

@@ -3,6 +3,7 @@ pub mod Seats
 pub mod Shapes
 pub mod Lifted
 pub mod Does
+pub mod Effects
 pub mod Laws
 pub mod Opening
 pub mod Hosts

@@ -19,7 +19,9 @@ use Rattle.ring_machine.specs.Machine.{Memory, resting, ring}
 use Rattle.ring_machine.specs.Answers.{shape}
 use Rattle.ring_machine.specs.Rule.{Good}
 use Rattle.ring_machine.proofs.Start.{IsNew, shown_good}
+use Rattle.bounded_model.specs.declared.history.Event.{Event}
 use Rattle.running.specs.Rule.{Rule}
+use Rattle.running.specs.Ties.{IsTie}
 use Rattle.running.proofs.Acts.{led_first}
 use Rattle.running.proofs.Newest.{newest_first}
 use Rattle.running.proofs.Opening.{empties, home_start, home_past, homes_start}
@@ -27,9 +29,9 @@ use Rattle.ring_table.specs.declared.line.SeatLine.TheVariants.{Stock}
 use Rattle.ring_table.specs.Layout.{head_at, tail_at, slot_at, spread, words_for, start_slot, start_at}
 use Rattle.ring_table.specs.Memories.{memory_of}
 use Rattle.ring_table.specs.Seats.{each_resting, passes_of, cells_from}
-use Rattle.ring_table.specs.Core.{cells, core, first_memory, shape_for}
+use Rattle.ring_table.specs.Core.{cells, core, first_memory, ring_with, shape_for}
 use Rattle.ring_table.proofs.Memories.{slot_below, slot_beyond, hints_below}
-use Rattle.ring_table.proofs.Laws.{ring_on}
+use Rattle.ring_table.proofs.Laws.{laws}
 
 -- the word of slot i
 slot_part : (b : Bool) (i : ℕ) → start_slot (cond b 8 1) (48 + cond b 8 1 * i - 48) ≡ i
@@ -90,18 +92,19 @@ module _ (T : Type 0) (n laps passes : ℕ) (ws : List ℕ) (some_slot : 0 < n) 
   good : Good T n laps (cells T n laps passes) m (passes_of (Stock (cells_from n passes) ∷ [])) []
   good = subst (λ (ls : List (Line T)). Good T n laps (n + passes) m ls []) (sym root_lines) (shown_good T n laps passes m some_slot new)
 
-  opens_all : Rule {names = _} (ring_on T n laps passes) (opening ws (replicate (n + passes) None) (first_view (Stock (cells_from n passes))))
-  opens_all = record {
+  opens_all : (rule : List (Event T) → Type 0) → IsTie rule → Rule {names = _} (ring_with T n laps passes rule) (opening ws (replicate (n + passes) None) (first_view (Stock (cells_from n passes))))
+  opens_all rule tie = record {
     history = [];
     good = good;
     seated = seated_first (shape_for T n laps passes) (core T n laps passes).holding (Stock (cells_from n passes));
     newest = newest_first T (Stock (cells_from n passes));
     sane = record { words_are = long; homes_are = homes_start T (n + passes); plain = λ q. absurd q };
-    led = led_first (ring_on T n laps passes) m first_is;
+    led = led_first (ring_with T n laps passes rule) (laws n laps passes) m first_is;
+    tied = tie.first;
   }
 
 -- words that are given one after another, and a number of slots
-pub opens : (T : Type 0) (n laps passes : ℕ) (ws items : List ℕ) → ws ≡ items → 0 < n → n + passes ≤ NULL → length items ≡ words_for n → ((k : ℕ) → k < words_for n → slice_index items k ≡ start_at n k) → (count : ℕ) → count ≡ n + passes
-    → Rule {names = _} (ring_on T n laps passes) (opening ws (replicate count None) (first_view (Stock (cells_from n passes))))
-opens T n laps passes ws items e some_slot small long is count same = subst (λ (k : ℕ). Rule {names = _} (ring_on T n laps passes) (opening ws (replicate k None) (first_view (Stock (cells_from n passes))))) (sym same)
-    (opens_all T n laps passes ws some_slot small (ap length e ∙ long) (λ k h. ap (λ (l : List ℕ). slice_index l k) e ∙ is k h))
+pub opens : (T : Type 0) (n laps passes : ℕ) (rule : List (Event T) → Type 0) → IsTie rule → (ws items : List ℕ) → ws ≡ items → 0 < n → n + passes ≤ NULL → length items ≡ words_for n → ((k : ℕ) → k < words_for n → slice_index items k ≡ start_at n k) → (count : ℕ) → count ≡ n + passes
+    → Rule {names = _} (ring_with T n laps passes rule) (opening ws (replicate count None) (first_view (Stock (cells_from n passes))))
+opens T n laps passes rule tie ws items e some_slot small long is count same = subst (λ (k : ℕ). Rule {names = _} (ring_with T n laps passes rule) (opening ws (replicate k None) (first_view (Stock (cells_from n passes))))) (sym same)
+    (opens_all T n laps passes ws some_slot small (ap length e ∙ long) (λ k h. ap (λ (l : List ℕ). slice_index l k) e ∙ is k h) rule tie)

@@ -13,14 +13,16 @@ use Rattle.ring_machine.specs.Answers.{shape}
 use Rattle.ring_machine.specs.Rule.{Good, Tells}
 use Rattle.ring_machine.specs.Deeds.{Deeds}
 use Rattle.ring_machine.specs.Places.{WinsUnheld}
-use Rattle.running.specs.Machine.{Core}
+use Rattle.running.specs.Machine.{Core, Machine}
 use Rattle.running.specs.Tables.{Board, Rules, core_of}
+use Rattle.running.specs.Ties.{no_rule}
 use Rattle.ring_table.specs.declared.line.SeatLine.{SeatLine}
 use Rattle.ring_table.specs.declared.line.SeatLine.TheVariants.{At, Stock}
 use Rattle.ring_table.specs.declared.operation.Operation.{Operation}
 use Rattle.ring_table.specs.Layout.{layout}
+use Rattle.ring_table.specs.Effects.{effect}
 use Rattle.ring_table.specs.Lines.{call_of, reply, Brings, Says}
-use Rattle.ring_table.specs.Seats.{passes_of, cells_from, IsStock, deed_at}
+use Rattle.ring_table.specs.Seats.{passes_of, cells_from, IsStock, deed_at, names}
 use Rattle.ring_table.specs.Free.{FreeAt}
 
 -- What holds of a line of the machine, for a line of a seat. For a seat that is not a pass's nothing is claimed, and it makes no step
@@ -94,6 +96,7 @@ module _ (T : Type 0) (n laps passes : ℕ) where
     reply = reply_at;
     Reads = ⊥;
     Peeks = λ o. ⊥;
+    Effect = effect;
     rest = λ p. At (resting (n + p));
     stock = Stock (cells_from n passes);
     IsStock = IsStock passes;
@@ -106,3 +109,10 @@ module _ (T : Type 0) (n laps passes : ℕ) where
 
   abbrev pub core : Core T (SeatLine T) (Operation T)
   core = core_of board rules
+
+  -- the machine of a client with this rule, and of one with none
+  abbrev pub ring_with : (List (Event T) → Type 0) → Machine T (SeatLine T) (Operation T) names
+  ring_with rule = record { core = core; rule = rule }
+
+  abbrev pub ring_on : Machine T (SeatLine T) (Operation T) names
+  ring_on = ring_with no_rule

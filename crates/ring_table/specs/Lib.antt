@@ -4,4 +4,5 @@ pub mod Lines
 pub mod Lists
 pub mod Seats
 pub mod Free
+pub mod Effects
 pub mod Core

@@ -1,8 +1,10 @@
 -- The lines of the seats of a ring's table. The line of a pass is that of the machine. The line of any other seat has the spare cells of
 -- that seat.
-use Rattle.std.specs.Prelude.{◌≡◌, ℕ, zero, suc, ◌+◌, Bool, false, List, [], ◌∷◌, ◌++◌, length}
+use Rattle.std.specs.Prelude.{◌≡◌, ℕ, zero, suc, ◌+◌, Bool, true, false, List, [], ◌∷◌, ◌++◌, length}
 use mathlib.Core.Option.{Option, none, some}
 use Rattle.machine.specs.Program.{Then, Won, Deed, stays, returns, brings, rests, loads, checks, follows, fetches, stows, stores, links, attempts, swaps}
+use Rattle.ring_machine.specs.declared.lines.Call.{Call}
+use Rattle.ring_machine.specs.declared.lines.Call.TheVariants.{Put as CallPut, Take as CallTake, Close as CallClose, Shut as CallShut, Look as CallLook, Len as CallLen, Gauge as CallGauge}
 use Rattle.ring_machine.specs.declared.lines.Line.{Line}
 use Rattle.ring_machine.specs.Machine.{cell_of, resting, starts}
 use Rattle.ring_machine.specs.Machine as ring
@@ -52,8 +54,38 @@ module _ {T : Type 0} where
   first o (At l) = At (starts (call_of o) l)
   first o (Stock cs) = Stock cs
 
+  -- once its operation has ended a pass is idle, and stays at its line; no operation begins idle
+  pub quiet_rests : (s : SeatLine T) → is_idle (quiet s) ≡ true
+  quiet_rests (At l) = λ i. true
+  quiet_rests (Stock cs) = λ i. true
+
+  pub quiet_stays : (s : SeatLine T) → quiet (quiet s) ≡ quiet s
+  quiet_stays (At l) = λ i. At (resting (cell_of l))
+  quiet_stays (Stock cs) = λ i. At (resting 0)
+
+  call_busy : (call : Call T) (l : Line T) → ring.is_idle (starts call l) ≡ false
+  call_busy (CallPut v) l = λ i. false
+  call_busy CallTake l = λ i. false
+  call_busy CallClose l = λ i. false
+  call_busy CallShut l = λ i. false
+  call_busy CallLook l = λ i. false
+  call_busy CallLen l = λ i. false
+  call_busy CallGauge l = λ i. false
+
+  pub begins_busy : (o : Operation T) (s : SeatLine T) → is_idle (first o s) ≡ false
+  begins_busy o (At l) = call_busy (call_of o) l
+  begins_busy o (Stock cs) = λ i. false
+
   abbrev pub names : Names (SeatLine T) (Operation T)
-  names = record { shares = record { none = Stock []; gives = gives; takes = takes; both = both }; is_idle = is_idle; quiet = quiet; first = first }
+  names = record {
+    shares = record { none = Stock []; gives = gives; takes = takes; both = both };
+    is_idle = is_idle;
+    quiet = quiet;
+    first = first;
+    rests = quiet_rests;
+    calm = quiet_stays;
+    starts = begins_busy;
+  }
 
 -- the spare cells of this number of passes, from the first one's on
 abbrev pub cells_from : ℕ → ℕ → List ℕ

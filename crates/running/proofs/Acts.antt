@@ -22,6 +22,7 @@ use Rattle.machine.proofs.Tests.{same_or_not}
 use Rattle.machine.proofs.Seating.{at_end, left_owns, both_owns, only_first}
 use Rattle.machine.proofs.SeatedCalls.{KnowsActs}
 use Rattle.running.specs.Machine.{Names, Machine, IsQuiet}
+use Rattle.running.specs.Laws.{Laws}
 use Rattle.running.specs.Rule.{line_now, going_now, quiet, view_after, MayCut, MayLook, MayUnite}
 use Rattle.running.specs.Acts.{Doing, Begins, Steps, Looks, Hears, placed, counted, sum_of, made, Now, having_stepped, after_act, played, IsAllowed, AllProper, AllFresh, answers_at, answers_after, answers_in, HasDone, Worked, Counts, Seen, Knew, Sees, IsSame, IsAt, Follows, IsOwned, Led, begun_acts, acts_after}
 
@@ -71,13 +72,13 @@ module _ {T L O : Type 0} {names : Names L O} (m : Machine T L O names) where
 
   -- a line is at rest as it is once its operation has ended
   pub idle_quiet : (l : L) → IsQuiet names m.core l → names.is_idle l ≡ true
-  idle_quiet l q = ap names.is_idle (sym q) ∙ m.laws.rests l
+  idle_quiet l q = ap names.is_idle (sym q) ∙ names.rests l
 
   quiet_idle : (l : L) → names.is_idle (quiet names l) ≡ names.is_idle l
   quiet_idle l = by_test (names.is_idle l) refl
     where
       by_test : (b : Bool) → names.is_idle l ≡ b → names.is_idle (cond b (names.quiet l) l) ≡ b
-      by_test true e = m.laws.rests l
+      by_test true e = names.rests l
       by_test false e = e
 
   quiet_same : (l : L) → IsSame names m.core l (quiet names l)
@@ -238,7 +239,7 @@ module _ {T L O : Type 0} {names : Names L O} (m : Machine T L O names) where
     busy_now = by_test (names.is_idle l) refl
       where
         by_test : (b : Bool) → names.is_idle l ≡ b → names.is_idle (cond b (names.first o l) l) ≡ false
-        by_test true e = m.laws.starts o l
+        by_test true e = names.starts o l
         by_test false e = e
 
     pub record Began (k : Acts L) : Type 0 where
@@ -529,13 +530,13 @@ module _ {T L O : Type 0} {names : Names L O} (m : Machine T L O names) where
     left_follows (AtHearing p xs l told) f = rest_follows p l xs f.sees.0 (f.lines p.number refl) f.counts f.sees.1
     left_follows Left f = f
 
-    right_follows : (v : View T L) → MayCut m v → Fits acts v → Fits acts (right_of names.shares v)
-    right_follows (AtRoot r ks heard l) may f = rest_follows (new_pass r) (names.shares.gives l).1 ks (m.laws.gives_quiet may.0 l may.1 may.2) (f.lines r.given (inl (omega arith))) (f.counts.0 r.given (omega arith)) (knew_any acts ks r.given (f.sees.0 r.given (omega arith)) f.sees.1)
-    right_follows (AtPass p begun l) may f = record { lines = λ y o. absurd o; counts = tt; sees = knew_part acts begun.now p.number f.sees.1 }
-    right_follows (AtMeeting p xs k q ys l) may f = rest_follows q l ys f.sees.0.1 (f.lines q.number (inr refl)) f.counts.1 f.sees.2
-    right_follows (AtNote told) may f = f
-    right_follows (AtHearing p xs l told) may f = record { lines = λ y o. absurd o; counts = tt; sees = f.sees.2 }
-    right_follows Left may f = f
+    right_follows : Laws names m.core → (v : View T L) → MayCut m v → Fits acts v → Fits acts (right_of names.shares v)
+    right_follows laws (AtRoot r ks heard l) may f = rest_follows (new_pass r) (names.shares.gives l).1 ks (laws.gives_quiet may.0 l may.1 may.2) (f.lines r.given (inl (omega arith))) (f.counts.0 r.given (omega arith)) (knew_any acts ks r.given (f.sees.0 r.given (omega arith)) f.sees.1)
+    right_follows laws (AtPass p begun l) may f = record { lines = λ y o. absurd o; counts = tt; sees = knew_part acts begun.now p.number f.sees.1 }
+    right_follows laws (AtMeeting p xs k q ys l) may f = rest_follows q l ys f.sees.0.1 (f.lines q.number (inr refl)) f.counts.1 f.sees.2
+    right_follows laws (AtNote told) may f = f
+    right_follows laws (AtHearing p xs l told) may f = record { lines = λ y o. absurd o; counts = tt; sees = f.sees.2 }
+    right_follows laws Left may f = f
 
     both_follows : (v w : View T L) → MayUnite m v w → Fits acts v → Fits acts w → Fits acts (both_of names.shares v w)
     both_follows (AtRoot r ks heard l) (AtPass p begun k) may f g = record {
@@ -567,8 +568,8 @@ module _ {T L O : Type 0} {names : Names L O} (m : Machine T L O names) where
       owned = λ x. owned_set views id v (looked h (looking led.acts v) v) mine (looked_keeps h (looking led.acts v) v) x (led.owned x);
     }
 
-    pub led_split : (id : ℕ) (v : View T L) → MayCut m v → get_elem? views id ≡ some v → Led names m.core memory (set views id (left_of names.shares v) ++ right_of names.shares v ∷ []) h
-    led_split id v may mine = record {
+    pub led_split : Laws names m.core → (id : ℕ) (v : View T L) → MayCut m v → get_elem? views id ≡ some v → Led names m.core memory (set views id (left_of names.shares v) ++ right_of names.shares v ∷ []) h
+    led_split laws id v may mine = record {
       acts = led.acts;
       allowed = led.allowed;
       proper = led.proper;
@@ -580,7 +581,7 @@ module _ {T L O : Type 0} {names : Names L O} (m : Machine T L O names) where
           (λ u. subst (Fits led.acts) u.1 (left_follows led.acts v (led.each id v mine)))
           (λ u. led.each j w u.1)
           (at_set views id j (left_of names.shares v) w t))
-          (λ t. subst (Fits led.acts) t.0 (right_follows led.acts v may (led.each id v mine)))
+          (λ t. subst (Fits led.acts) t.0 (right_follows led.acts laws v may (led.each id v mine)))
           (at_end (set views id (left_of names.shares v)) (right_of names.shares v) w j e);
       owned = λ x.
           let o = led.owned x in
@@ -625,14 +626,14 @@ module _ {T L O : Type 0} {names : Names L O} (m : Machine T L O names) where
     }
 
   -- a new container
-  pub led_first : (memory : m.core.Memory) → m.core.first ≡ memory → Led names m.core memory (first_view m.core.stock ∷ []) []
-  led_first memory is = record {
+  pub led_first : Laws names m.core → (memory : m.core.Memory) → m.core.first ≡ memory → Led names m.core memory (first_view m.core.stock ∷ []) []
+  led_first laws memory is = record {
     acts = [];
     allowed = tt;
     proper = tt;
     fresh = tt;
     memory_is = is;
     history_is = refl;
-    each = λ j v e. subst (Fits []) (only_first m.core.shape m.core.holding j (first_view m.core.stock) v e).1 (record { lines = λ y o. m.laws.fresh y; counts = (λ y le. record { steps_are = refl; answers_are = refl }, tt); sees = (λ y le. record { others = []; is = refl; same = λ f none deaf. refl }, record { more = []; is = refl }, record { more = []; is = refl }) });
+    each = λ j v e. subst (Fits []) (only_first m.core.shape m.core.holding j (first_view m.core.stock) v e).1 (record { lines = λ y o. laws.fresh y; counts = (λ y le. record { steps_are = refl; answers_are = refl }, tt); sees = (λ y le. record { others = []; is = refl; same = λ f none deaf. refl }, record { more = []; is = refl }, record { more = []; is = refl }) });
     owned = λ x. record { seat = 0; view = first_view m.core.stock; there = refl; owns = inl (omega arith) };
   }

@@ -94,7 +94,7 @@ module _ {T L O K S A : Type 0} {names : Names L O} (m : Machine T L O names) (c
 -- a pass that was between its calls has begun a new one
 module _ {T L O K : Type 0} {names : Names L O} (m : Machine T L O names) (id : TableId) (by : PassWith T L K) (on : passes.IsPassOn m id by.pass) where
   rests_idle : names.is_idle (line_in names by.pass.seat.me.0) ≡ true
-  rests_idle = ap (λ (v : View T L). names.is_idle (line_in names v)) on.rests.view ∙ m.laws.rests (line_in names by.pass.seat.me.0)
+  rests_idle = ap (λ (v : View T L). names.is_idle (line_in names v)) on.rests.view ∙ names.rests (line_in names by.pass.seat.me.0)
 
   pub new_call : (back : PassWith T L K) → HasNew names by.pass.seat.me.0 back.pass.seat.me.0 → HasNewCall by back
   new_call back n = subst (λ (b : Bool). NewActs b (acts_in by) (acts_in back) (pass_in by).number) rests_idle n

@@ -10,10 +10,11 @@ use Rattle.machine.specs.declared.seats.View.{View}
 use Rattle.machine.specs.declared.seats.View.TheVariants.{AtPass}
 use Rattle.machine.proofs.Sums.{at_map}
 use Rattle.running.specs.Machine.{Names, Machine}
+use Rattle.running.specs.Laws.{Lawful}
 use Rattle.running.specs.Rule.{who, line_in}
 use Rattle.running.specs.Acts.{IsAt, Led, played}
 
-module _ {T L O : Type 0} {names : Names L O} (m : Machine T L O names) (memory : m.core.Memory) (views : List (View T L)) (h : List (Event T)) (led : Led names m.core memory views h) where
+module _ {T L O : Type 0} {names : Names L O} {m : Machine T L O names} (lawful : Lawful m) (memory : m.core.Memory) (views : List (View T L)) (h : List (Event T)) (led : Led names m.core memory views h) where
   abbrev line : ℕ → L
   line = (played names m.core led.acts).line
 
@@ -26,4 +27,4 @@ module _ {T L O : Type 0} {names : Names L O} (m : Machine T L O names) (memory 
 
   pub begins_free : (o : O) (id : ℕ) (p : PassView T) (from : Begun T L) (l : L) → get_elem? views id ≡ some (AtPass p from l) → m.core.Good memory (who views) (map (line_in names) views) h → names.is_idle l ≡ true
       → m.core.Free memory line (names.first o l)
-  begins_free o id p from l mine good idle = m.laws.free memory (record { who = who views; lines = map (line_in names) views; history = h; seat = id; line = l; good = good; here = at_map (line_in names) views id (AtPass p from l) mine }) o line idle seat_of
+  begins_free o id p from l mine good idle = lawful.laws.free memory (record { who = who views; lines = map (line_in names) views; history = h; seat = id; line = l; good = good; here = at_map (line_in names) views id (AtPass p from l) mine }) o line idle seat_of

@@ -10,6 +10,7 @@ use Rattle.index_list.specs.declared.change.Change.{Change}
 use Rattle.machine.specs.declared.seats.View.{View}
 use Rattle.machine.proofs.Tests.{either_way}
 use Rattle.running.specs.Machine.{Names, Machine, brings, returns}
+use Rattle.running.specs.Laws.{Lawful}
 use Rattle.running.specs.Rule.{Rule}
 use Rattle.running.specs.Going.{Found, Missed, Brings, now_in}
 use Rattle.running.specs.Lists.{Lists, side, host}
@@ -48,10 +49,10 @@ module _ {S : Type 0} where
       let nothing : rest ≡ [] = none_left zs rest (ap length (sym parts) ∙ sym (length_numbers had) ∙ ap length same ∙ length_numbers zs) in
       (no_more zs ∙ ap (λ (ys : List (ℕ × S)). zs ++ ys) (sym nothing) ∙ sym parts, nothing)
 
-module _ {T L O : Type 0} {names : Names L O} (m : Machine T L O names) (y : Lists L) {o : O} {id l w : ℕ} {c : Change} {me me' : Me (Slot T) (View T L)} where
+module _ {T L O : Type 0} {names : Names L O} {m : Machine T L O names} (lawful : Lawful m) (y : Lists L) {o : O} {id l w : ℕ} {c : Change} {me me' : Me (Slot T) (View T L)} where
   -- it found another word
   pub missed : Lost y.layout (host m y) (Rule m) o id l w c me me' → (me'.1 ≡ me.1) × Missed m o me.0 me'.0 w
-  missed x = (x.unmoved, record { found = x.found; other = x.other; steps = λ begun line going. steps_so m going x.step.said.0 })
+  missed x = (x.unmoved, record { found = x.found; other = x.other; steps = λ begun line going. steps_so lawful going x.step.said.0 })
 
   -- it brought slots
   pub brought : side (y.layout.carries l) c ≡ brings → ChangedBy y.layout (host m y) (Rule m) o id l false w c me me' → Brings m o me.0 me'.0 w me.1 me'.1
@@ -59,18 +60,18 @@ module _ {T L O : Type 0} {names : Names L O} (m : Machine T L O names) (y : Lis
     slots = x.slots;
     moved = x.moves.0;
     fits = λ begun line going. subst (λ k. m.core.Fits k x.slots) (now_going m going) (x.said.1 refl does);
-    steps = λ begun line going. steps_so m going x.said.0;
+    steps = λ begun line going. steps_so lawful going x.said.0;
   }
 
   -- it gave all slots back
   pub returned : side (y.layout.carries l) c ≡ returns → m.core.Fits (now_in m o me.0) me.1 → ChangedBy y.layout (host m y) (Rule m) o id l true w c me me' → (me'.1 ≡ []) × Found m o me.0 me'.0 w me.1
   returned does fits x =
       let all = all_given me.1 x.slots me'.1 x.moves.0 (x.said.2 refl does me.1 fits) in
-      (all.1, subst (λ zs. Found m o me.0 me'.0 w zs) all.0 (λ begun line going. steps_so m going x.said.0))
+      (all.1, subst (λ zs. Found m o me.0 me'.0 w zs) all.0 (λ begun line going. steps_so lawful going x.said.0))
 
   -- it moved none
   pub unmoved : (giving : Bool) (x : ChangedBy y.layout (host m y) (Rule m) o id l giving w c me me') → numbers x.slots ≡ [] → Found m o me.0 me'.0 w []
-  unmoved giving x none = subst (λ zs. Found m o me.0 me'.0 w zs) (none_moved x.slots none) (λ begun line going. steps_so m going x.said.0)
+  unmoved giving x none = subst (λ zs. Found m o me.0 me'.0 w zs) (none_moved x.slots none) (λ begun line going. steps_so lawful going x.said.0)
 
   -- a take of no slots, or a mark, won or lost
   module _ (won : Bool) (wins : won ≡ true → ChangedBy y.layout (host m y) (Rule m) o id l false w c me me') (none : (xs : List ℕ) → cond (y.layout.carries l) (arranged c (taken (fields_of w) c xs)) [] ≡ []) where

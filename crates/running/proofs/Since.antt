@@ -35,14 +35,14 @@ module _ {T L O : Type 0} {names : Names L O} (m : Machine T L O names) where
   quiet_idle l = by_test (names.is_idle l) refl
     where
       by_test : (b : Bool) → names.is_idle l ≡ b → names.is_idle (cond b (names.quiet l) l) ≡ b
-      by_test true e = m.laws.rests l
+      by_test true e = names.rests l
       by_test false e = e
 
   busy_now : (o : O) (l : L) → names.is_idle (line_now names o l) ≡ false
   busy_now o l = by_test (names.is_idle l) refl
     where
       by_test : (b : Bool) → names.is_idle l ≡ b → names.is_idle (cond b (names.first o l) l) ≡ false
-      by_test true e = m.laws.starts o l
+      by_test true e = names.starts o l
       by_test false e = e
 
   -- an operation's next step is of a line in an operation

@@ -1,6 +1,6 @@
 -- Which seats may be made one or cut in two, by what passes, roots and notes show of them; and the lines of a container whose passes are all
 -- alike between their operations.
-use Rattle.std.proofs.Common.{refl, ◌≡◌, ◌⊎◌, inl, inr, ⊎_elim, ℕ, Bool, List, [], ◌∷◌, ◌++◌, set, sym, ap, ◌∙◌, subst}
+use Rattle.std.proofs.Common.{refl, true, false, ◌≡◌, ◌⊎◌, inl, inr, ⊎_elim, ℕ, Bool, List, [], ◌∷◌, ◌++◌, set, sym, ap, ◌∙◌, subst}
 use mathlib.Core.Option.{some}
 use lib.ListN.{get_elem?}
 use Rattle.atomic_table.proofs.Lists.{set_again}
@@ -17,13 +17,13 @@ module _ {T L O : Type 0} {names : Names L O} (m : Machine T L O names) where
 
   module _ (v w : View T L) where
     pub unites_root : (r : RootView T) (ks : Acts L) (out : ℕ) → v ≡ AtRoot r ks nothing (line_in names v) → m.core.IsStock out (line_in names v) → w ≡ at_rest (R (line_in names w)) (pass_of w) (acts_now w) → MayUnite m v w
-    unites_root r ks out ev stock ew = subst (λ (u : View T L). MayUnite m u w) (sym ev) (subst (MayUnite m (AtRoot r ks nothing (line_in names v))) (sym ew) ((out, stock), m.laws.calm (line_in names w), refl))
+    unites_root r ks out ev stock ew = subst (λ (u : View T L). MayUnite m u w) (sym ev) (subst (MayUnite m (AtRoot r ks nothing (line_in names v))) (sym ew) ((out, stock), names.calm (line_in names w), refl))
 
     pub unites_passes : v ≡ at_rest (R (line_in names v)) (pass_of v) (acts_now v) → w ≡ at_rest (R (line_in names w)) (pass_of w) (acts_now w) → MayUnite m v w
-    unites_passes ev ew = subst (λ (u : View T L). MayUnite m u w) (sym ev) (subst (MayUnite m (at_rest (R (line_in names v)) (pass_of v) (acts_now v))) (sym ew) (m.laws.calm (line_in names v), m.laws.calm (line_in names w)))
+    unites_passes ev ew = subst (λ (u : View T L). MayUnite m u w) (sym ev) (subst (MayUnite m (at_rest (R (line_in names v)) (pass_of v) (acts_now v))) (sym ew) (names.calm (line_in names v), names.calm (line_in names w)))
 
     pub unites_note : v ≡ at_rest (R (line_in names v)) (pass_of v) (acts_now v) → w ≡ AtNote (handed_of w) → MayUnite m v w
-    unites_note ev ew = subst (λ (u : View T L). MayUnite m u w) (sym ev) (subst (MayUnite m (at_rest (R (line_in names v)) (pass_of v) (acts_now v))) (sym ew) (m.laws.calm (line_in names v)))
+    unites_note ev ew = subst (λ (u : View T L). MayUnite m u w) (sym ev) (subst (MayUnite m (at_rest (R (line_in names v)) (pass_of v) (acts_now v))) (sym ew) (names.calm (line_in names v)))
 
     -- what was made one may look what others have done
     pub looks_root : (between : View T L) (r : RootView T) (ks : Acts L) → v ≡ AtRoot r ks nothing (line_in names v) → w ≡ at_rest (R (line_in names w)) (pass_of w) (acts_now w) → between ≡ both_of names.shares v w → MayLook m between
@@ -49,9 +49,9 @@ module _ {T L O : Type 0} {names : Names L O} (m : Machine T L O names) where
         subst (MayCut m) (sym t.1) tt
 
 -- where all passes are alike, a line of a seat stays, and that of a new seat is the idle one
-module _ {T L O : Type 0} (idle : L) (is_idle : L → Bool) (first : O → L → L) (c : Core T L O) where
+module _ {T L O : Type 0} (idle : L) (is_idle : L → Bool) (first : O → L → L) (rests : is_idle idle ≡ true) (starts : (o : O) (l : L) → is_idle (first o l) ≡ false) (c : Core T L O) where
   abbrev N : Names L O
-  N = record { shares = all_alike idle; is_idle = is_idle; quiet = λ l. idle; first = first }
+  N = record { shares = all_alike idle; is_idle = is_idle; quiet = λ l. idle; first = first; rests = λ l. rests; calm = λ l i. idle; starts = starts }
 
   stays : (lines : List L) (seat : ℕ) (line l : L) → get_elem? lines seat ≡ some line → l ≡ line → set lines seat l ≡ lines
   stays lines seat line l e same = ap (set lines seat) same ∙ set_again lines seat line e

@@ -8,7 +8,8 @@ use Rattle.machine.specs.Words.{same}
 use Rattle.machine.proofs.Tests.{not_same, same-self}
 use Rattle.running.specs.Machine.{Names, Machine}
 use Rattle.running.specs.Rule.{line_in}
-use Rattle.running.specs.Going.{Ended, Found, Steps}
+use Rattle.running.specs.Laws.{Lawful}
+use Rattle.running.specs.Going.{Ended, Found, Owes, Steps}
 use Rattle.running.specs.Passes.{IsPassOn, IsAtOn, OneLine, WentOn, begun_of, pass_in}
 use Rattle.running.specs.declared.passes.Pass.{Pass}
 use Rattle.running.proofs.Going.{goes_at, ends_at, begins, begun_at_rest}
@@ -39,12 +40,13 @@ module _ {T L O : Type 0} {names : Names L O} (m : Machine T L O names) where
         let e = ends_at m steps refl idle slots in
         (record { table = table; rests = e.0 }, e.1, (e.2, e.3))
 
-  -- a pass between its operations may begin any
-  pub started : (id : TableId) (o : O) (p : Pass T L) → IsPassOn m id p → IsAtOn m id o p (names.first o (line_in names p.seat.me.0)) []
-  started id o p is = record { table = is.table; at = begins m o p.seat.me is.rests }
-
   pub begun_is : (id : TableId) (p : Pass T L) → IsPassOn m id p → begun_of m p ≡ pass_in p
   begun_is id p is = begun_at_rest m (line_in names p.seat.me.0) p.seat.me.0 is.rests.view
+
+module _ {T L O : Type 0} {names : Names L O} {m : Machine T L O names} (lawful : Lawful m) where
+  -- a pass between its operations may begin any that deals by its client's rule
+  pub started : (id : TableId) (o : O) (p : Pass T L) → IsPassOn m id p → Owes m o (pass_in p) → IsAtOn m id o p (names.first o (line_in names p.seat.me.0)) []
+  started id o p is owes = record { table = is.table; at = begins lawful o p.seat.me is.rests owes }
 
 -- an exchange found the word that it expected, or another
 pub hits : {L : Type 0} (w : ℕ) (won lost : L) → cond (same (fields_of w) (fields_of w)) won lost ≡ won

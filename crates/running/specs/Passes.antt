@@ -65,6 +65,7 @@ module _ {T L O : Type 0} {names : Names L O} (m : Machine T L O names) where
     pub sound : IsSound m.core.shape (root_in r)
     pub counted : (root_in r).given ≡ r.out + length (root_in r).account
     pub stock : m.core.IsStock r.out (line_in names r.seat.me.0)
+    pub tied : m.rule (root_in r).seen
 
   -- a note
   pub record IsNoteOn (id : TableId) (n : Note T L) : Type 0 where
@@ -72,6 +73,7 @@ module _ {T L O : Type 0} {names : Names L O} (m : Machine T L O names) where
     pub view : n.seat.me.0 ≡ AtNote (handed_of n.seat.me.0)
     pub slots : n.seat.me.1 ≡ []
     pub legal : Legal m.core.shape (told_in n)
+    pub tied : m.rule (told_in n)
 
   -- a pass in an operation, at a line and with these slots in hand
   pub record IsAtOn (id : TableId) (o : O) (p : Pass T L) (l : L) (slots : List (ℕ × Slot T)) : Type 0 where

@@ -184,6 +184,7 @@ pub record Rules (T M L O : Type 0) : Type 1 where
   pub reply : L → Answered T
   pub Reads : Type 0
   pub Peeks : O → Type 0
+  pub Effect : O → ℕ → Event T → Type 0
   pub rest : ℕ → L
   pub stock : L
   pub IsStock : ℕ → L → Type 0
@@ -206,6 +207,7 @@ module _ {T M P Q L O : Type 0} (b : Board T M P Q L) (r : Rules T M L O) where
     reply = r.reply;
     Reads = r.Reads;
     Peeks = r.Peeks;
+    Effect = r.Effect;
     rest = r.rest;
     stock = r.stock;
     IsStock = r.IsStock;

@@ -20,6 +20,7 @@ mod rule;
 mod seats;
 mod stepping;
 mod steps;
+mod tie;
 mod whole_calls;
 
 pub use access::{Access, Outcome};
@@ -33,7 +34,8 @@ pub use lists::{ListMachine, load_top_step, store_link_step};
 pub use op::Op;
 pub use passes::{Note, Pass, Root, heed, join, make_note, meet, split};
 pub use replies::{Keeping, Replies};
-pub use rule::{Machine, Running};
+pub use rule::{Lawful, Machine, Running};
 pub use seats::peek;
 pub use stepping::{any, first_step};
+pub use tie::{Free, Tie};
 pub use whole_calls::{leave, whole};

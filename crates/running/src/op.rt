@@ -1,5 +1,6 @@
 //! An operation that was begun, on any container: one type for all operations of a machine.
 ghost use Rattle.std.specs.Prelude.{◌≡◌, ◌<◌};
+ghost use Rattle.running.specs.Going.{Owes};
 ghost use Rattle.running.specs.Kept.{OpRunsFor, OpSteps};
 ghost use Rattle.running.specs.Ops.{IsFirst, IsUnderWay, underway_of};
 ghost use Rattle.bounded_model.specs.Stepping.{no_step};
@@ -38,6 +39,7 @@ impl<T, L, O: Drop, S> Op<T, L, O, S> {
         requires pass { IsPassOn (M.machine (C.key on.now)) (C.id on.now) by }
         requires first { IsFirst M.names (S.account (C.key on.now))
             (line_in M.names by.seat.me.0) operation at }
+        requires owes { Owes (M.machine (C.key on.now)) operation (pass_in by) }
         ensures under_way { IsUnderWay (M.machine (C.key on.now)) (S.account (C.key on.now))
             (C.id on.now) result }
         ensures begun { underway_of (M.machine (C.key on.now)) result.pass ≡ no_step (pass_in by) }

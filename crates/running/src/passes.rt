@@ -17,7 +17,7 @@ ghost use Rattle.running.specs.Passes.{
   acts_of_note,
 };
 
-use crate::rule::{Machine, Running};
+use crate::rule::{Lawful, Running};
 use crate::seats::{join_seats, look_round, split_seat};
 use atomic_table::{Seat, Shared};
 use backoff::Density;
@@ -48,7 +48,7 @@ pub struct Note<T, L> {
 
 /// Gives a new pass, which has seen what the root has and keeps its acts. `None` exactly if `most` passes are out, the
 /// most that the container allows at one time.
-pub fn split<T, L, O, M: Machine<T, L, O>>(
+pub fn split<T, L, O, M: Lawful<T, L, O>>(
     table: &Shared<Option<T>, View<T, L>, Limits, Running<O, M>>,
     parent: &mut Root<T, L>,
     most: u32,
@@ -85,7 +85,7 @@ pub fn split<T, L, O, M: Machine<T, L, O>>(
 /// Lets the first pass see what the second has seen, and keep all acts that either has kept. The
 /// second comes back as it was. The answer is
 /// always true, because a table never lacks a seat.
-pub fn meet<T, L, O, M: Machine<T, L, O>>(
+pub fn meet<T, L, O, M: Lawful<T, L, O>>(
     table: &Shared<Option<T>, View<T, L>, Limits, Running<O, M>>,
     first: &mut Pass<T, L>,
     second: Pass<T, L>,
@@ -112,7 +112,7 @@ pub fn meet<T, L, O, M: Machine<T, L, O>>(
 
 /// Makes a note of what the pass has seen, and of the acts that it keeps. The answer is always some note, because a table never
 /// lacks a seat.
-pub fn make_note<T, L, O, M: Machine<T, L, O>>(
+pub fn make_note<T, L, O, M: Lawful<T, L, O>>(
     table: &Shared<Option<T>, View<T, L>, Limits, Running<O, M>>,
     by: &mut Pass<T, L>,
 ) -> Option<Note<T, L>>
@@ -132,7 +132,7 @@ pub fn make_note<T, L, O, M: Machine<T, L, O>>(
 }
 
 /// The pass has now seen at least what the note tells, and keeps the acts that the note has.
-pub fn heed<T, L, O, M: Machine<T, L, O>>(
+pub fn heed<T, L, O, M: Lawful<T, L, O>>(
     table: &Shared<Option<T>, View<T, L>, Limits, Running<O, M>>,
     by: &mut Pass<T, L>,
     note: Note<T, L>,
@@ -154,7 +154,7 @@ pub fn heed<T, L, O, M: Machine<T, L, O>>(
 }
 
 /// The root takes a pass back: it has now seen what the pass has, and keeps its acts.
-pub fn join<T, L, O, M: Machine<T, L, O>>(
+pub fn join<T, L, O, M: Lawful<T, L, O>>(
     table: &Shared<Option<T>, View<T, L>, Limits, Running<O, M>>,
     parent: &mut Root<T, L>,
     by: Pass<T, L>,

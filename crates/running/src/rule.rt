@@ -1,5 +1,6 @@
 //! A container's machine, and the rule of its table.
 ghost use Rattle.tagged_index.specs.declared.limit.Limits.{Limits};
+ghost use Rattle.running.specs.Laws.{Lawful as TheLaws};
 ghost use Rattle.running.specs.Machine.{Names, Machine as TheMachine};
 
 use atomic_table::TableRule;
@@ -12,6 +13,11 @@ pub trait Machine<T, L, O> {
     ghost names: { Names L O };
 
     ghost machine: { Limits → TheMachine T L O names };
+}
+
+/// A machine whose laws are proved: every step of it keeps the rule of its table.
+pub trait Lawful<T, L, O>: Machine<T, L, O> {
+    ghost lawful: { (limits : Limits) → TheLaws (Self.machine limits) };
 }
 
 /// What holds of a container's table between any two steps.

@@ -121,7 +121,7 @@ module _ {T L O C : Type 0} {names : Names L O} (m : Machine T L O names) (x : P
       → is_begin d + is_hear d + (length answers + open_at (k.line p)) ≡ length (answers_after names m.core k p d answers) + open_at ((after_act names m.core k p d).line p)
   one_answer k p (Begins first) answers allowed proper =
       let line : (after_act names m.core k p (Begins first)).line p ≡ first = ap (λ (b : Bool). (cond b (now_begun k p first) k).line p) proper ∙ ap (λ (b : Bool). cond b first (k.line p)) (eq-eqb p p refl) in
-      let busy : open_at first ≡ 1 = ap open_at allowed.2 ∙ ap (λ (b : Bool). cond b 0 1) (m.laws.starts allowed.0 allowed.1) in
+      let busy : open_at first ≡ 1 = ap open_at allowed.2 ∙ ap (λ (b : Bool). cond b 0 1) (names.starts allowed.0 allowed.1) in
       let was : open_at (k.line p) ≡ 0 = ap (λ (b : Bool). cond b 0 1) proper in
       omega (arith, ap open_at line, busy, was)
   one_answer k p Steps answers allowed proper =
@@ -161,11 +161,11 @@ module _ {T L O C : Type 0} {names : Names L O} (m : Machine T L O names) (x : P
         ap open_at (line_other m k p a.0 a.1 ne),
       )
 
-  pub balanced : (p : ℕ) (acts : Acts L) → Allowed acts → AllProper names m.core acts → Balanced p acts
-  balanced p [] allowed proper = let e : open_at (m.core.rest p) ≡ 0 = ap (λ (b : Bool). cond b 0 1) (m.laws.fresh p) in omega (arith, e)
-  balanced p (a ∷ older) allowed proper = ⊎_elim
-      (λ same. subst (λ (q : ℕ). Balanced q older → Balanced q (a ∷ older)) (sym same) (balanced_mine a older allowed.0 proper.0) (balanced p older allowed.1 proper.1))
-      (λ ne. balanced_other p a older ne (balanced p older allowed.1 proper.1))
+  pub balanced : ((p : ℕ) → names.is_idle (m.core.rest p) ≡ true) → (p : ℕ) (acts : Acts L) → Allowed acts → AllProper names m.core acts → Balanced p acts
+  balanced fresh p [] allowed proper = let e : open_at (m.core.rest p) ≡ 0 = ap (λ (b : Bool). cond b 0 1) (fresh p) in omega (arith, e)
+  balanced fresh p (a ∷ older) allowed proper = ⊎_elim
+      (λ same. subst (λ (q : ℕ). Balanced q older → Balanced q (a ∷ older)) (sym same) (balanced_mine a older allowed.0 proper.0) (balanced fresh p older allowed.1 proper.1))
+      (λ ne. balanced_other p a older ne (balanced fresh p older allowed.1 proper.1))
       (same_or_not p a.0)
 
   -- Of each pass: what its calls cost, with what it has heard, is at most what its answers are worth, and its call under way
@@ -207,7 +207,7 @@ module _ {T L O C : Type 0} {names : Names L O} (m : Machine T L O names) (x : P
         let v' : Pass L C (Event T) = having_begun x s v (call_at first) in
         let idle : x.is_idle v.line ≡ true = same_idle m x call_at is n s k sh p v there.1 ∙ proper.0 in
         let starts : v'.line ≡ first = subst (λ (l : L). x.starts (call_at l) v.line ≡ l) (sym allowed.0.2) (is.starts allowed.0.0 allowed.0.1 v.line) in
-        let busy : x.is_idle v'.line ≡ false = ap x.is_idle starts ∙ is.idle first ∙ ap names.is_idle allowed.0.2 ∙ m.laws.starts allowed.0.0 allowed.0.1 in
+        let busy : x.is_idle v'.line ≡ false = ap x.is_idle starts ∙ is.idle first ∙ ap names.is_idle allowed.0.2 ∙ names.starts allowed.0.0 allowed.0.1 in
         let to : after ((p, Begins first) ∷ older) ≡ begun x s p v (call_at first) = run_append x (schedule_of call_at older) (one call_at p (Begins first)) (start x n) ∙ ap (acts_at x s p (Begin (call_at first))) there.1 ∙ ap (λ (b : Bool). cond b (begun x s p v (call_at first)) s) idle in
         let was : due (get_elem? s.passes p) ≡ 0 = ap due there.1 ∙ ap (λ (b : Bool). cond b 0 (cost_of v.call)) idle in
         let will : due (get_elem? (after ((p, Begins first) ∷ older)).passes p) ≡ price first = ap (λ (z : S). due (get_elem? z.passes p)) to ∙ ap due (set_same s.passes p v v' there.1) ∙ ap (λ (b : Bool). cond b 0 (price first)) busy in

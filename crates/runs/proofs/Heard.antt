@@ -46,7 +46,7 @@ module _ {T L O C A : Type 0} {names : Names L O} (m : Machine T L O names) (x :
       let v = there.0 in
       let to : L = x.starts (call_at first) v.line in
       let starts : to ≡ first = subst (λ (l : L). x.starts (call_at l) v.line ≡ l) (sym allowed.2) (is.starts allowed.0 allowed.1 v.line) in
-      let busy : x.is_idle to ≡ false = ap x.is_idle starts ∙ is.idle first ∙ ap names.is_idle allowed.2 ∙ m.laws.starts allowed.0 allowed.1 in
+      let busy : x.is_idle to ≡ false = ap x.is_idle starts ∙ is.idle first ∙ ap names.is_idle allowed.2 ∙ names.starts allowed.0 allowed.1 in
       let idle : x.is_idle v.line ≡ names.is_idle (k.line p) = same_idle m x call_at is n s k sh p v there.1 in
       ap (history_at x answer s p (Begin (call_at first))) there.1
       ∙ (λ t. cond (idle t) (cond (busy t) (Responds p (answer to) ∷ []) [] ++ Invokes p (call_at first) ∷ []) [])

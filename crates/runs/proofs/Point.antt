@@ -347,7 +347,7 @@ module _ {T L O C A : Type 0} {names : Names L O} (m : Machine T L O names) (cal
       → (lin : IsLinearizable names m.core call_at answer o ran.now) → HasPoint lin.course (told ran.before) (record { by = (pass_of v).number; call = call; answer = a })
   run_has_point o op v begun l a call ran is idle says lin =
       subst (λ (c : C). HasPoint lin.course (told ran.before) (record { by = (pass_of v).number; call = c; answer = a })) is
-      (call_has_point o (pass_of v).number ran.before ran.now (names.first op ran.rest) l a ran.course (m.laws.starts op ran.rest) idle says lin)
+      (call_has_point o (pass_of v).number ran.before ran.now (names.first op ran.rest) l a ran.course (names.starts op ran.rest) idle says lin)
 
 -- a course is a linearization up to the point of a call
 pub point_runs : {T C A : Type 0} (o : Object T C A) (course before : List (Entry T C A)) (k : Operation C A) (at : HasPoint course before k) → IsLinearization o course → IsLinearization o (at.point ∷ at.older)

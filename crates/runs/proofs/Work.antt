@@ -23,7 +23,7 @@ use Rattle.runs.specs.Work.{total_steps, total_fees, in_all, is_look, is_hear, p
 use Rattle.runs.proofs.Sums.{total_plus, total_most, total_below, total_length, total_alike, by_pass, only_below}
 use Rattle.runs.proofs.Costs.{priced, open_at, calls, answered, balanced, all_steps, all_costs, covered, nothing_due}
 
-module _ {T L O C : Type 0} {names : Names L O} (m : Machine T L O names) (x : Pure m.core.Memory L C (Event T)) (call_at : L → C) (is : IsRunning m x call_at) where
+module _ {T L O C : Type 0} {names : Names L O} (m : Machine T L O names) (x : Pure m.core.Memory L C (Event T)) (call_at : L → C) (is : IsRunning m x call_at) (fresh : (p : ℕ) → names.is_idle (m.core.rest p) ≡ true) where
   module _ (r : RootView T) (left : List T) (ran : IsRun m r left) (sound : IsSound m.core.shape r) (nobody : NoneOut r) where
     abbrev acts : Acts L
     acts = ran.acts
@@ -35,7 +35,7 @@ module _ {T L O C : Type 0} {names : Names L O} (m : Machine T L O names) (x : P
     answers_home : (p : ℕ) → IsHome p → calls m x call_at is p acts ≡ length (answered m x call_at is p acts)
     answers_home p home =
         let rests : open_at m x call_at is ((played names m.core acts).line p) ≡ 0 = ap (λ (b : Bool). cond b 0 1) (ran.rests p home) in
-        omega (arith, balanced m x call_at is p acts ran.allowed ran.proper, rests)
+        omega (arith, balanced m x call_at is fresh p acts ran.allowed ran.proper, rests)
 
     pub below : Below r.given acts
     below = only_below r.given acts (λ p above.

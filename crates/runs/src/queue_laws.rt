@@ -14,7 +14,7 @@ mod work;
 
 pub use bounds::{queue_acts_are_a_schedule, queue_steps_are_bounded};
 pub use full::{queue_call_has_point, queue_full_put};
-pub use headline::{queue_headline, queue_headline_near_misses};
+pub use headline::{queue_headline, queue_headline_as, queue_headline_near_misses};
 pub use life::{queue_spent_near_misses, queue_spent_put};
 pub use linearizable::queue_acts_are_linearizable;
 pub use lock_free::queue_acts_are_lock_free;

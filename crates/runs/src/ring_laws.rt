@@ -16,7 +16,7 @@ mod work;
 
 pub use bounds::{ring_acts_are_a_schedule, ring_steps_are_bounded};
 pub use full::{ring_call_has_point, ring_full_put};
-pub use headline::ring_headline;
+pub use headline::{ring_headline, ring_headline_as};
 pub use linearizable::ring_acts_are_linearizable;
 pub use lock_free::ring_acts_are_lock_free;
 pub use one_run::ring_one_run;

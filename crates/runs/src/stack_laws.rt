@@ -14,7 +14,7 @@ mod work;
 
 pub use bounds::{stack_acts_are_a_schedule, stack_steps_are_bounded};
 pub use full::{stack_call_has_point, stack_full_put};
-pub use headline::stack_headline;
+pub use headline::{stack_headline, stack_headline_as};
 pub use linearizable::stack_acts_are_linearizable;
 pub use lock_free::stack_acts_are_lock_free;
 pub use one_run::stack_one_run;

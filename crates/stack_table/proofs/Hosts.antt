@@ -21,6 +21,7 @@ use Rattle.stack_machine.specs.Machine.{Memory, held, placed, is_up}
 use Rattle.stack_machine.specs.Rule.{Lists as BothLists, IsFine, Turns, Kept}
 use Rattle.stack_machine.proofs.Moves.{all_nodes}
 use Rattle.running.specs.Rule.{Rule}
+use Rattle.running.specs.Ties.{IsTie}
 use Rattle.running.specs.Lists.{Listed, Hosts, Ready, BroughtBy, ReturnedBy, step_access, front_of, host}
 use Rattle.running.proofs.Hosting.{laws}
 use Rattle.running.proofs.Slots.{turned_twice, turned_so}
@@ -28,12 +29,12 @@ use Rattle.running.proofs.Indexes.{times_holds, leads_low, stands_in, once_below
 use Rattle.stack_table.specs.Layout.{free_at, top_at, link_at, words_for}
 use Rattle.index_list.specs.declared.front.Front.{Front}
 use Rattle.index_list.specs.declared.front.Front.TheVariants.{First, Last}
-use Rattle.stack_table.specs.Core.{core}
+use Rattle.stack_table.specs.Core.{core, stack_with}
 use Rattle.stack_table.specs.Lines.{direction}
 use Rattle.stack_table.specs.Memories.{memory_of}
 use Rattle.stack_table.specs.Lists.{lists, list_step}
 use Rattle.stack_table.proofs.Slots.{numbers_vacant, numbers_full}
-use Rattle.stack_table.proofs.Laws.{stack, idle_holds, first_empty}
+use Rattle.stack_table.proofs.Laws.{lawful, idle_holds, first_empty}
 
 agrees : {T : Type 0} (n limit : ℕ) (line : Line T) → (core T n limit).access line ≡ step_access (lists {T = T}) ((core T n limit).access line) (list_step line)
 agrees n limit (Idle a) = refl
@@ -105,8 +106,8 @@ link_off : (first_list : Bool) (i : ℕ) → link_at i ≡ cond first_list free_
 link_off true i e = omega arith
 link_off false i e = omega arith
 
-hosts : (T : Type 0) (n limit : ℕ) → Hosts (stack T n limit) (lists {T = T}) 2
-hosts T n limit = record {
+hosts : (T : Type 0) (n limit : ℕ) (rule : List (Event T) → Type 0) → Hosts (stack_with T n limit rule) (lists {T = T}) 2
+hosts T n limit rule = record {
   idle = λ l line e. idle_holds line e;
   first = λ l o rest. (first_empty o).none_held;
   apart = λ l i low e. link_off (eqb l 0) i e;
@@ -118,8 +119,8 @@ hosts T n limit = record {
   returned = λ words homes of lines h q line zs k at fits. returned n limit words homes of lines h k q line zs (k.good.linked.fine q line at) fits;
 }
 
-pub list_laws : (T : Type 0) (n limit : ℕ) → Laws (lists {T = T}).layout (host (stack T n limit) (lists {T = T})) (Rule (stack T n limit)) 2
-list_laws T n limit = laws (stack T n limit) (lists {T = T}) 2 (hosts T n limit)
+pub list_laws : (T : Type 0) (n limit : ℕ) (rule : List (Event T) → Type 0) → IsTie rule → Laws (lists {T = T}).layout (host (stack_with T n limit rule) (lists {T = T})) (Rule (stack_with T n limit rule)) 2
+list_laws T n limit rule tie = laws (lawful n limit rule tie) (lists {T = T}) 2 (hosts T n limit rule)
 
 pub front_is : (front : Front) → front_of (is_up (direction front)) ≡ front
 front_is First = refl

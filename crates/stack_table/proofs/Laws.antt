@@ -1,5 +1,5 @@
 -- The stack's machine on its table, with all its laws.
-use Rattle.std.proofs.Common.{◌≡◌, ℕ, ◌+◌, ◌⊎◌, ⊎_elim, true, false, List, [], ◌∷◌, ◌++◌, length, set, refl, sym, ap, ◌∙◌, subst, arith}
+use Rattle.std.proofs.Common.{◌≡◌, ℕ, ◌+◌, ◌⊎◌, ⊎_elim, true, List, [], ◌∷◌, ◌++◌, length, set, refl, sym, ap, ◌∙◌, subst, arith}
 use Rattle.std.proofs.lemmas.Bool.{false≢true}
 use Rattle.std.specs.Prelude.{None}
 use mathlib.Core.Option.{Option, some}
@@ -25,13 +25,17 @@ use Rattle.stack_machine.proofs.Start.{reads_good}
 use Rattle.stack_machine.proofs.Step.{step_kept}
 use Rattle.stack_machine.proofs.Tells.{tells_kept, step_apart}
 use Rattle.stack_machine.proofs.Doing.{begins, meanwhile, step_does}
-use Rattle.running.specs.Machine.{Laws, Machine}
+use Rattle.running.specs.Laws.{Laws, Lawful}
+use Rattle.running.specs.Ties.{IsTie}
 use Rattle.running.proofs.Uniting.{alike}
 use Rattle.stack_table.specs.declared.operation.Operation.{Operation}
 use Rattle.stack_table.specs.declared.operation.Operation.TheVariants.{Put as PutFirst}
-use Rattle.stack_table.specs.Lines.{names, call_of, first_line}
-use Rattle.stack_table.specs.Core.{core}
+use Rattle.stack_table.specs.Lines.{begins_busy, names, call_of, first_line}
+use Rattle.stack_table.specs.Core.{core, stack_with}
 use Rattle.stack_table.proofs.Does.{does}
+use Rattle.stack_table.proofs.Effects.{stack_effects}
+-- callers' proofs may name the machine from here too
+pub use Rattle.stack_table.specs.Core.{stack}
 
 -- the rule goes by the sums over lines and by each line
 reseated : {T : Type 0} (n limit : ℕ) (m : Memory T) (g : Lists) (of of' : ℕ → Option ℕ) (lines lines' : List (Line T)) (h : List (Event T)) → Good T n limit m g of lines h → (lines' ≡ lines) ⊎ (lines' ≡ lines ++ Idle None ∷ [])
@@ -82,10 +86,6 @@ module _ {T : Type 0} where
   first_fine limit m g (PutFirst v others) = record { chained = tt; wants = omega arith }
   first_fine limit m g o = tt
 
-  starts : (o : Operation T) → is_idle (first_line o) ≡ false
-  starts (PutFirst v others) = refl
-  starts o = refl
-
   pub idle_holds : (l : Line T) → is_idle l ≡ true → held l ≡ []
   idle_holds (Idle a) e = refl
   idle_holds l e = absurd (false≢true e)
@@ -109,10 +109,7 @@ module _ {T : Type 0} (n limit : ℕ) where
 
   pub laws : Laws {T = T} names (core T n limit)
   laws = record {
-    rests = λ l. refl;
-    calm = λ l. refl;
     fresh = λ p. refl;
-    starts = λ o rest. starts o;
     stocked = tt;
     gives_quiet = λ out l is more. refl;
     gives_stock = λ out l is more. tt;
@@ -120,7 +117,7 @@ module _ {T : Type 0} (n limit : ℕ) where
     empty = λ l e. ap length (idle_holds l e);
     begins = λ m s o idle. goes_empty m s.who s.lines s.history s.seat s.line (first_line o) s.good s.here (idle_holds s.line idle) (first_empty o) (first_fine limit m s.good.lists o);
     quiets = λ m s idle. goes_empty m s.who s.lines s.history s.seat s.line (Idle None) s.good s.here (idle_holds s.line idle) (record { none_held = refl; none_put = refl }) tt;
-    reseats = λ m r. record { lists = r.good.lists; good = reseated n limit m r.good.lists r.who r.who' r.lines r.lines' r.history r.good.good (alike (Idle None) is_idle (λ o rest. first_line o) (core T n limit) r.lines r.lines' r.shared) r.hands r.alone };
+    reseats = λ m r. record { lists = r.good.lists; good = reseated n limit m r.good.lists r.who r.who' r.lines r.lines' r.history r.good.good (alike (Idle None) is_idle (λ o rest. first_line o) (λ i. true) (λ o rest. begins_busy o) (core T n limit) r.lines r.lines' r.shared) r.hands r.alone };
     kept = λ m t. step_kept n limit m t.at.who t.at.lines t.at.history t.at.seat t.pass t.is t.at.good t.at.line t.at.here;
     legal = λ m of lines h k. k.good.told.legal;
     hands = λ m t. t.at.good.good.told.hands t.at.seat t.pass t.at.line t.at.here t.is;
@@ -131,8 +128,10 @@ module _ {T : Type 0} (n limit : ℕ) where
     first_tells = λ h o rest. first_tells n limit h o;
     unheld = λ m s p. wins_unheld s.good.good s.seat p s.line s.here;
     free = λ m s o line idle seats. tt;
+    effects = λ o m s d. stack_effects n limit m s.pass (call_of o) s.begun s.at.history s.at.line s.at.who s.at.lines s.at.seat s.at.good s.at.here d s.saw;
     does = λ words homes t sane. does n limit words homes sane t.at.who t.at.lines t.at.history t.at.seat t.at.good t.pass t.at.line t.at.here;
   }
 
-abbrev pub stack : (T : Type 0) (n limit : ℕ) → Machine T (Line T) (Operation T) names
-stack T n limit = record { core = core T n limit; laws = laws n limit }
+  -- with any rule of a client
+  pub lawful : (rule : List (Event T) → Type 0) → IsTie rule → Lawful (stack_with T n limit rule)
+  lawful rule tie = record { laws = laws; tie = tie }

@@ -18,14 +18,16 @@ use Rattle.machine.specs.Seats.{first_view}
 use Rattle.machine.proofs.Tests.{cases}
 use Rattle.machine.proofs.Seating.{seated_first}
 use Rattle.stack_machine.proofs.Start.{start_kept}
+use Rattle.bounded_model.specs.declared.history.Event.{Event}
 use Rattle.running.specs.Rule.{Rule}
+use Rattle.running.specs.Ties.{IsTie}
 use Rattle.running.proofs.Acts.{led_first}
 use Rattle.running.proofs.Newest.{newest_first}
 use Rattle.running.proofs.Opening.{empties, home_start, home_past, homes_start, first_who, nobody, below_or_not}
 use Rattle.stack_table.specs.Layout.{free_at, top_at, link_at, words_for, start_at}
 use Rattle.stack_table.specs.Memories.{memory_of, at_home}
-use Rattle.stack_table.specs.Core.{core}
-use Rattle.stack_table.proofs.Laws.{laws, stack}
+use Rattle.stack_table.specs.Core.{core, stack_with}
+use Rattle.stack_table.proofs.Laws.{laws}
 
 start_links : (n i : ℕ) → start_at n (link_at i) ≡ start_link n i
 start_links n i = cases (λ v. v ≡ start_link n i) (eqb (48 + i) top_at) NULL (cond (ltb (48 + i) 48) 0 (cond (eqb (48 + i) (47 + n)) NULL (48 + i - 47)))
@@ -57,8 +59,8 @@ module _ {T : Type 0} (n limit : ℕ) where
     home = λ i. slot_first i t;
   }
 
-  opens_all : (ws items : List ℕ) → ws ≡ items → 0 < n → n ≤ NULL → length items ≡ words_for n → ((k : ℕ) → k < words_for n → slice_index items k ≡ start_at n k) → Rule {names = _} (stack T n limit) (opening ws (replicate n None) (first_view (Idle None)))
-  opens_all ws items e some_node small long_items items_are =
+  opens_all : (rule : List (Event T) → Type 0) → IsTie rule → (ws items : List ℕ) → ws ≡ items → 0 < n → n ≤ NULL → length items ≡ words_for n → ((k : ℕ) → k < words_for n → slice_index items k ≡ start_at n k) → Rule {names = _} (stack_with T n limit rule) (opening ws (replicate n None) (first_view (Idle None)))
+  opens_all rule tie ws items e some_node small long_items items_are =
       let long : length ws ≡ words_for n = ap length e ∙ long_items in
       let is : (k : ℕ) → k < words_for n → slice_index ws k ≡ start_at n k = λ k h. ap (λ (l : List ℕ). slice_index l k) e ∙ items_are k h in
       let homes : List (Option (Slot T)) = empties T n in
@@ -86,8 +88,9 @@ module _ {T : Type 0} (n limit : ℕ) where
               (λ high. subst (λ (k : ℕ). k ≤ NULL) (sym (get_or_past ws (link_at a.index) 0 (omega arith))) (omega arith))
               (below_or_not a.index n);
         };
-        led = led_first (stack T n limit) (memory_of ws homes) shown;
+        led = led_first (stack_with T n limit rule) (laws n limit) (memory_of ws homes) shown;
+        tied = tie.first;
       }
 
-  pub opens : (ws items : List ℕ) → ws ≡ items → 0 < n → n ≤ NULL → length items ≡ words_for n → ((k : ℕ) → k < words_for n → slice_index items k ≡ start_at n k) → (count : ℕ) → count ≡ n → Rule {names = _} (stack T n limit) (opening ws (replicate count None) (first_view (Idle None)))
-  opens ws items e some_node small long is count same = subst (λ (k : ℕ). Rule {names = _} (stack T n limit) (opening ws (replicate k None) (first_view (Idle None)))) (sym same) (opens_all ws items e some_node small long is)
+  pub opens : (rule : List (Event T) → Type 0) → IsTie rule → (ws items : List ℕ) → ws ≡ items → 0 < n → n ≤ NULL → length items ≡ words_for n → ((k : ℕ) → k < words_for n → slice_index items k ≡ start_at n k) → (count : ℕ) → count ≡ n → Rule {names = _} (stack_with T n limit rule) (opening ws (replicate count None) (first_view (Idle None)))
+  opens rule tie ws items e some_node small long is count same = subst (λ (k : ℕ). Rule {names = _} (stack_with T n limit rule) (opening ws (replicate k None) (first_view (Idle None)))) (sym same) (opens_all rule tie ws items e some_node small long is)

@@ -1,5 +1,5 @@
 -- The stack's machine on its table, as the running layer sees it.
-use Rattle.std.specs.Prelude.{ℕ, ◌≤◌, length, None}
+use Rattle.std.specs.Prelude.{ℕ, ◌≤◌, List, length, None}
 use Rattle.tagged_index.specs.declared.word.TheConstants.{NULL}
 use Rattle.stack_machine.specs.declared.lines.Top.{Top}
 use Rattle.stack_machine.specs.declared.lines.Link.{Link}
@@ -10,11 +10,14 @@ use Rattle.stack_machine.specs.Answers.{shape}
 use Rattle.stack_machine.specs.Rule.{Tells, Kept}
 use Rattle.stack_machine.specs.Deeds.{Deeds}
 use Rattle.stack_machine.specs.Places.{WinsUnheld}
-use Rattle.running.specs.Machine.{Core}
+use Rattle.bounded_model.specs.declared.history.Event.{Event}
+use Rattle.running.specs.Machine.{Core, Machine}
 use Rattle.running.specs.Tables.{Board, Rules, core_of}
+use Rattle.running.specs.Ties.{no_rule}
 use Rattle.stack_table.specs.declared.operation.Operation.{Operation}
 use Rattle.stack_table.specs.Layout.{layout}
-use Rattle.stack_table.specs.Lines.{PutsMany, call_of, reply, Brings, Says}
+use Rattle.stack_table.specs.Effects.{effect}
+use Rattle.stack_table.specs.Lines.{PutsMany, call_of, names, reply, Brings, Says}
 
 module _ (T : Type 0) (n limit : ℕ) where
   abbrev pub board : Board T (Memory T) Top Link (Line T)
@@ -36,6 +39,7 @@ module _ (T : Type 0) (n limit : ℕ) where
     reply = reply;
     Reads = Unit {0};
     Peeks = λ o. PutsMany (call_of o);
+    Effect = effect;
     rest = λ p. Idle None;
     stock = Idle None;
     IsStock = λ out l. Unit {0};
@@ -48,3 +52,10 @@ module _ (T : Type 0) (n limit : ℕ) where
 
   abbrev pub core : Core T (Line T) (Operation T)
   core = core_of board rules
+
+  -- the machine of a client with this rule, and of one with none
+  abbrev pub stack_with : (List (Event T) → Type 0) → Machine T (Line T) (Operation T) names
+  stack_with rule = record { core = core; rule = rule }
+
+  abbrev pub stack : Machine T (Line T) (Operation T) names
+  stack = stack_with no_rule

@@ -7,7 +7,7 @@ use Rattle.treiber_stack.specs.Prelude.{names}
 use Rattle.treiber_stack.specs.code.Closing.{answer_of, mark_account, mark_name, mark_reply, sets}
 use Rattle.treiber_stack.specs.code.Every.{every_account, every_answer, every_line, every_slots}
 use Rattle.treiber_stack.specs.code.Putting.{Answer as PutAnswer, put_account}
-use Rattle.treiber_stack.specs.Calls.{Stack, machine_of}
+use Rattle.treiber_stack.specs.Calls.{StackWith, machine_of}
 use Rattle.treiber_stack.specs.code.Machine.{Answered}
 use Rattle.treiber_stack.specs.code.Taking.{Answer as TakeAnswer, take_account}
 use Rattle.treiber_stack.specs.declared.code.closing.Mark.{Mark}
@@ -24,7 +24,7 @@ every at said (On s) = On (at s)
 every at said (Lost s) = Lost (at s)
 every at said (Done a) = Done (record { kept = a.kept; reply = said a.reply })
 
-module _ {T : Type 0} (c : Stack T) where
+module _ {T : Type 0} {D : Type 0} (c : StackWith T D) where
   abbrev pub Every : StackAt T → Outcome → List (ℕ × Slot T) → List (ℕ × Slot T) → Next (StackAt T) (Answered (Reply T)) → Type 0
   Every s r has after to = Finding (machine_of c).core (every_line s) r (every_slots s) has (λ found came. Leads names (every_account c.table.shared.key) s ((machine_of c).core.next (every_line s) found came) after to)
 

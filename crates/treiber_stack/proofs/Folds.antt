@@ -7,9 +7,9 @@ use Rattle.bounded_model.specs.declared.views.Answered.TheVariants.{Fold as Fold
 use Rattle.bounded_model.specs.Consumes.{Folds}
 use Rattle.bounded_model.specs.Laws.{TakesNothing}
 use Rattle.stack_machine.proofs.Made.{made_no_fold}
-use Rattle.treiber_stack.specs.Prelude.{AnswerFold, Answers, CallTake, Done, Ended, Finding, FoldAnswers, FoldFirst, FoldGives, Free, Front, Leads}
-use Rattle.treiber_stack.specs.Prelude.{Line, Next, Operation, Outcome, Pass, PassView, Stops, StopsAt, TakeRefused, View, Whole, direction, ends}
-use Rattle.treiber_stack.specs.Prelude.{full, in_order, is_idle, length_in_order, names, next, own, pass_in, pass_of, values_full}
+use Rattle.treiber_stack.specs.Prelude.{AnswerFold, Answers, CallTake, Done, Ended, Event, Finding, FoldAnswers, FoldFirst, FoldGives, Free, Front}
+use Rattle.treiber_stack.specs.Prelude.{Leads, Line, Next, Operation, Outcome, Pass, PassView, Stops, StopsAt, TakeRefused, View, Whole, direction}
+use Rattle.treiber_stack.specs.Prelude.{ends, full, in_order, is_idle, length_in_order, names, next, own, pass_in, pass_of, values_full}
 use Rattle.treiber_stack.specs.declared.bulk.fold_op.FoldMade.TheVariants.{Value, Done as Done'}
 use Rattle.treiber_stack.specs.declared.bulk.folding.Batch.{Batch}
 use Rattle.treiber_stack.specs.declared.bulk.folding.FoldAt.{FoldAt}
@@ -19,9 +19,9 @@ use Rattle.treiber_stack.specs.declared.bulk.folding.FoldStop.TheVariants.{Yield
 use Rattle.treiber_stack.specs.declared.code.giving.Chain.{Chain}
 use Rattle.treiber_stack.specs.declared.code.giving.Give.{Give}
 use Rattle.treiber_stack.specs.code.Folding.{fold_account, nodes_of, folded_of, folding, front_of, gone, fold_line, fold_slots, HasReadToFold, FoldTold}
-use Rattle.treiber_stack.specs.Bulk.{FoldOp, IsFolding, FoldTried}
-use Rattle.treiber_stack.specs.code.Steps.{GaveTo, as_pass, IsAt}
-use Rattle.treiber_stack.specs.Calls.{WasRun, WasFolded, Stack, room_of, limit_of, machine_of, shape_of, begun_of}
+use Rattle.treiber_stack.specs.Bulk.{FoldOp, IsFoldingWith, FoldTriedWith}
+use Rattle.treiber_stack.specs.code.Steps.{GaveTo, as_pass, IsAtWith}
+use Rattle.treiber_stack.specs.Calls.{WasRunWith, WasFoldedWith, StackWith, room_of, limit_of, machine_of, machine_with, shape_of, begun_with}
 use Rattle.treiber_stack.specs.code.Refusing.{RefusesTake}
 use Rattle.treiber_stack.specs.code.KeepsAnswers.{adds_of}
 use Rattle.treiber_stack.proofs.Gives.{busy_giving, within, gave_within}
@@ -34,15 +34,15 @@ Folds_more Gives s (y ∷ ys) r t x folds next = (folds.0, folds.1, Folds_more G
 pub folds_same : {T S : Type 0} (Gives : S → T → S → Type 0) (s : S) (xs ys : List T) (r : S) → xs ≡ ys → Folds Gives s xs r → Folds Gives s ys r
 folds_same Gives s xs ys r e folds = subst (λ (zs : List _). Folds Gives s zs r) e folds
 
-module _ {T : Type 0} (c : Stack T) (front : Front) {v : View T (Line T)} {begun : PassView T} where
-  pub fold_gives : (folded : List T) (t : ℕ) (e : Ended (machine_of c) (FoldFirst front) v begun (ends (AnswerFold (Ok (folded, t))))) → FoldGives begun (pass_of v) e.deeds.made.values t
+module _ {T : Type 0} (rule : List (Event T) → Type 0) {D : Type 0} (c : StackWith T D) (front : Front) {v : View T (Line T)} {begun : PassView T} where
+  pub fold_gives : (folded : List T) (t : ℕ) (e : Ended (machine_with rule c) (FoldFirst front) v begun (ends (AnswerFold (Ok (folded, t))))) → FoldGives begun (pass_of v) e.deeds.made.values t
   fold_gives folded t e =
       let made = e.deeds.made in
       let vs = made.values in
-      adds_of c.table.shared.key e (Free begun.number (length vs) ∷ TakeAllEvent begun.number vs t ∷ []) (made.is ∙ ap (λ (k : ℕ). Free k (length vs) ∷ TakeAllEvent k vs t ∷ []) e.number)
+      adds_of rule c.table.shared.key e (Free begun.number (length vs) ∷ TakeAllEvent begun.number vs t ∷ []) (made.is ∙ ap (λ (k : ℕ). Free k (length vs) ∷ TakeAllEvent k vs t ∷ []) e.number)
 
-  pub takes_nothing : (why : TakeRefused) → Ended (machine_of c) (FoldFirst front) v begun (ends (AnswerFold (Err why))) → TakesNothing (shape_of c) begun (pass_of v) why
-  takes_nothing why e = (adds_of c.table.shared.key e [] (made_no_fold (pass_of v).number (own (pass_of v).number e.deeds.between) (CallTake (Whole (direction front))) why e.deeds.made), e.tells)
+  pub takes_nothing : (why : TakeRefused) → Ended (machine_with rule c) (FoldFirst front) v begun (ends (AnswerFold (Err why))) → TakesNothing (shape_of c) begun (pass_of v) why
+  takes_nothing why e = (adds_of rule c.table.shared.key e [] (made_no_fold (pass_of v).number (own (pass_of v).number e.deeds.between) (CallTake (Whole (direction front))) why e.deeds.made), e.tells)
 
 -- the operation of a fold says which end it goes from
 pub front_same : {T : Type 0} (f g : Front) → ◌≡◌ {A = Operation T} (FoldFirst f) (FoldFirst g) → f ≡ g
@@ -62,7 +62,7 @@ fold_busy (LoadToFold b walk) = refl
 fold_busy (GiveBack b chain n at) = busy_giving (folding b (nodes_of b)) at
 
 -- where the code of a fold goes on
-module _ {T : Type 0} (c : Stack T) where
+module _ {T : Type 0} {D : Type 0} (c : StackWith T D) where
   abbrev pub FoldsTo : FoldAt T → List (ℕ × Slot T) → Next (FoldAt T) (FoldStop T) → Line T → Type 0
   FoldsTo s has to l = Leads names (fold_account c.table.shared.key) s l has to
 
@@ -79,22 +79,22 @@ module _ {T : Type 0} (c : Stack T) where
       (gave_within c (fold_account c.table.shared.key) (folding b (nodes_of b)) (GiveBack b chain n) (AllGone b n) (GiveBack b chain n at)
       (λ at'. refl) (λ at'. refl) (λ at'. refl) (λ at'. subst (HasReadToFold (room_of c) (limit_of c)) is knows) refl at r has to gave)
 
-module _ {T : Type 0} (c : Stack T) where
+module _ {T : Type 0} (rule : List (Event T) → Type 0) {D : Type 0} (c : StackWith T D) where
   abbrev pub FoldStops : Front → PassView T → Pass T (Line T) → FoldStop T → Type 0
-  FoldStops front begun q stop = Stops (machine_of c) (fold_account c.table.shared.key) c.table.shared.table_id (FoldFirst front) begun q stop
+  FoldStops front begun q stop = Stops (machine_with rule c) (fold_account c.table.shared.key) c.table.shared.table_id (FoldFirst front) begun q stop
 
   -- what a fold gives that was at `op` and has stopped
-  module _ (front : Front) (values : List T) (op : FoldOp T) (is : IsFolding c front values op) (q : Pass T (Line T)) (stop : FoldStop T) (stops : FoldStops front (begun_of c op.pass) q stop)
+  module _ (front : Front) (values : List T) (op : FoldOp T) (is : IsFoldingWith rule c front values op) (q : Pass T (Line T)) (stop : FoldStop T) (stops : FoldStops front (begun_with rule c op.pass) q stop)
       (told : FoldTold (room_of c) (limit_of c) (front_of op.at) (gone op.at) stop) where
-    pub hands_on : (v : T) (at : FoldAt T) → stop ≡ Yields v at → FoldTried c front values (begun_of c op.pass) (Value v (record { pass = q; operation = op.operation; at = at }))
+    pub hands_on : (v : T) (at : FoldAt T) → stop ≡ Yields v at → FoldTriedWith rule c front values (begun_with rule c op.pass) (Value v (record { pass = q; operation = op.operation; at = at }))
     hands_on v at e =
         let t = subst (FoldTold (room_of c) (limit_of c) (front_of op.at) (gone op.at)) e told in
         let from = t.1 ∙ is.from in
-        let r = subst (λ (b : Bool). StopsAt (machine_of c) (fold_account c.table.shared.key) c.table.shared.table_id b (FoldFirst front) (begun_of c op.pass) q (Yields v at)) (fold_busy at) (subst (FoldStops front (begun_of c op.pass) q) e stops) in (
+        let r = subst (λ (b : Bool). StopsAt (machine_with rule c) (fold_account c.table.shared.key) c.table.shared.table_id b (FoldFirst front) (begun_with rule c op.pass) q (Yields v at)) (fold_busy at) (subst (FoldStops front (begun_with rule c op.pass) q) e stops) in (
           record {
             under_way = record {
               named = is.under_way.named ∙ ap FoldFirst (is.from ∙ sym from);
-              stands = record { at = subst (λ (f : Front). IsAt c (FoldFirst f) q (fold_line at) (fold_slots at)) (sym from) r.0; knows = t.0 };
+              stands = record { at = subst (λ (f : Front). IsAtWith rule c (FoldFirst f) q (fold_line at) (fold_slots at)) (sym from) r.0; knows = t.0 };
             };
             from = from;
             handed = t.2 ∙ ap (λ (vs : List T). vs ++ v ∷ []) is.handed;
@@ -102,38 +102,39 @@ module _ {T : Type 0} (c : Stack T) where
           r.1,
         )
 
-    pub all_answered : (b : Batch T) (n : ℕ) → stop ≡ AllGone b n → FoldAnswers (in_order (direction front)) (Ok (record { number = b.number; count = n })) (begun_of c op.pass) (pass_in q)
+    pub all_answered : (b : Batch T) (n : ℕ) → stop ≡ AllGone b n → FoldAnswers (in_order (direction front)) (Ok (record { number = b.number; count = n })) (begun_with rule c op.pass) (pass_in q)
     all_answered b n e =
-        let r = (subst (FoldStops front (begun_of c op.pass) q) e stops).1 in
+        let r = (subst (FoldStops front (begun_with rule c op.pass) q) e stops).1 in
         let made = r.deeds.made in
-        (made.values, fold_gives c front (folded_of b) b.number r, subst (λ (vs : List T). Answers (begun_of c op.pass) (pass_in q) (FoldAnswered (Ok (vs, b.number)))) made.order r.answered)
+        (made.values, fold_gives rule c front (folded_of b) b.number r, subst (λ (vs : List T). Answers (begun_with rule c op.pass) (pass_in q) (FoldAnswered (Ok (vs, b.number)))) made.order r.answered)
 
-    pub none_answered : (why : TakeRefused) → stop ≡ Refused why → FoldAnswers (in_order (direction front)) (Err why) (begun_of c op.pass) (pass_in q)
-    none_answered why e = (subst (FoldStops front (begun_of c op.pass) q) e stops).1.answered
+    pub none_answered : (why : TakeRefused) → stop ≡ Refused why → FoldAnswers (in_order (direction front)) (Err why) (begun_with rule c op.pass) (pass_in q)
+    none_answered why e = (subst (FoldStops front (begun_with rule c op.pass) q) e stops).1.answered
 
-    pub all_gone : (b : Batch T) (n : ℕ) → stop ≡ AllGone b n → FoldTried c front values (begun_of c op.pass) (Done' (as_pass q) (Ok (record { number = b.number; count = n })))
+    pub all_gone : (b : Batch T) (n : ℕ) → stop ≡ AllGone b n → FoldTriedWith rule c front values (begun_with rule c op.pass) (Done' (as_pass q) (Ok (record { number = b.number; count = n })))
     all_gone b n e =
-        let r = subst (FoldStops front (begun_of c op.pass) q) e stops in
+        let r = subst (FoldStops front (begun_with rule c op.pass) q) e stops in
         let made = r.1.deeds.made in
         let t = subst (FoldTold (room_of c) (limit_of c) (front_of op.at) (gone op.at)) e told in
         let order = sym is.handed ∙ t.0 ∙ made.order in
-        (record { on = r.0; keeps = tt }, (made.values, fold_gives c front (folded_of b) b.number r.1, sym t.1 ∙ ap length is.handed ∙ ap length order ∙ length_in_order (direction front) made.values, order), all_answered b n e)
+        (record { on = r.0; keeps = tt }, (made.values, fold_gives rule c front (folded_of b) b.number r.1, sym t.1 ∙ ap length is.handed ∙ ap length order ∙ length_in_order (direction front) made.values, order), all_answered b n e)
 
-    pub none_taken : (why : TakeRefused) → stop ≡ Refused why → FoldTried c front values (begun_of c op.pass) (Done' (as_pass q) (Err why))
+    pub none_taken : (why : TakeRefused) → stop ≡ Refused why → FoldTriedWith rule c front values (begun_with rule c op.pass) (Done' (as_pass q) (Err why))
     none_taken why e =
-        let r = subst (FoldStops front (begun_of c op.pass) q) e stops in
-        (record { on = r.0; keeps = tt }, (takes_nothing c front why r.1, sym is.handed ∙ subst (FoldTold (room_of c) (limit_of c) (front_of op.at) (gone op.at)) e told), none_answered why e)
+        let r = subst (FoldStops front (begun_with rule c op.pass) q) e stops in
+        (record { on = r.0; keeps = tt }, (takes_nothing rule c front why r.1, sym is.handed ∙ subst (FoldTold (room_of c) (limit_of c) (front_of op.at) (gone op.at)) e told), none_answered why e)
 
     -- it was run, as one call
-    pub all_ran : (b : Batch T) (n : ℕ) → stop ≡ AllGone b n → WasFolded c (FoldFirst front) (begun_of c op.pass) (as_pass q) front (Ok (record { number = b.number; count = n }))
+    pub all_ran : (b : Batch T) (n : ℕ) → stop ≡ AllGone b n → WasFoldedWith rule c (FoldFirst front) (begun_with rule c op.pass) (as_pass q) front (Ok (record { number = b.number; count = n }))
     all_ran b n e =
-        let r = (subst (FoldStops front (begun_of c op.pass) q) e stops).1 in
+        let r = (subst (FoldStops front (begun_with rule c op.pass) q) e stops).1 in
         let made = r.deeds.made in
-        (made.values, fold_gives c front (folded_of b) b.number r, subst (λ (vs : List T). WasRun c (FoldFirst front) (begun_of c op.pass) (as_pass q) (AnswerFold (Ok (vs, b.number)))) made.order (r.ran refl))
+        (made.values, fold_gives rule c front (folded_of b) b.number r, subst (λ (vs : List T). WasRunWith rule c (FoldFirst front) (begun_with rule c op.pass) (as_pass q) (AnswerFold (Ok (vs, b.number)))) made.order (r.ran refl))
 
-    pub none_ran : (why : TakeRefused) → stop ≡ Refused why → WasRun c (FoldFirst front) (begun_of c op.pass) (as_pass q) (AnswerFold (Err why))
-    none_ran why e = (subst (FoldStops front (begun_of c op.pass) q) e stops).1.ran refl
+    pub none_ran : (why : TakeRefused) → stop ≡ Refused why → WasRunWith rule c (FoldFirst front) (begun_with rule c op.pass) (as_pass q) (AnswerFold (Err why))
+    none_ran why e = (subst (FoldStops front (begun_with rule c op.pass) q) e stops).1.ran refl
 
+module _ {T : Type 0} {D : Type 0} (c : StackWith T D) where
   -- one that is told whatever is told of where it goes on has handed out the same values
   pub same_gone : (at to : FoldAt T) → HasReadToFold (room_of c) (limit_of c) to → ((stop : FoldStop T) → FoldTold (room_of c) (limit_of c) (front_of to) (gone to) stop → FoldTold (room_of c) (limit_of c) (front_of at) (gone at) stop) → gone to ≡ gone at
   same_gone at (LoadToFold b walk) w told =

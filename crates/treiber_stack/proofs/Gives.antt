@@ -5,19 +5,19 @@ use mathlib.Core.Option.{some}
 use Rattle.index_list.specs.Kinds.{Kind}
 use Rattle.stack_table.specs.Lists.{list_step}
 use Rattle.running.specs.Code.{left}
-use Rattle.treiber_stack.specs.Prelude.{Account, AtStep, Done as NextDone, Finding, Giving, Going, Leads, Line, MatchNext, Next, NextLost}
+use Rattle.treiber_stack.specs.Prelude.{Account, AtStep, Done as NextDone, Event, Finding, Giving, Going, Leads, Line, MatchNext, Next, NextLost}
 use Rattle.treiber_stack.specs.Prelude.{On as NextOn, Operation, Outcome, Pass, begun_in, ends, finding, is_idle, lists, names, next, vacant}
 use Rattle.treiber_stack.specs.declared.code.giving.Chain.{Chain}
 use Rattle.treiber_stack.specs.declared.code.giving.Give.{Give}
 use Rattle.treiber_stack.specs.declared.code.giving.Give.TheVariants.{Load, Link, Exchange}
-use Rattle.treiber_stack.specs.Calls.{Stack, room_of, limit_of, machine_of, begun_of}
-use Rattle.treiber_stack.specs.code.Steps.{IsAt, GaveTo}
+use Rattle.treiber_stack.specs.Calls.{StackWith, room_of, limit_of, machine_of, machine_with, begun_with}
+use Rattle.treiber_stack.specs.code.Steps.{IsAtWith, GaveTo}
 use Rattle.treiber_stack.specs.code.Giving.{AreNodes, give_line}
 
 module _ {T : Type 0} where
   -- a pass at a line makes its step on a list
-  pub ready_step : (c : Stack T) (o : Operation T) (p : Pass T (Line T)) (l : Line T) (slots : List (ℕ × Slot T)) (list : ℕ) (kind : Kind) → IsAt c o p l slots → list_step l ≡ some (list, kind) → AtStep (machine_of c) lists o p.seat.me.0 list kind
-  ready_step c o p l slots list kind at e = record { begun = begun_of c p; line = l; going = at.at.going; step = e }
+  pub ready_step : (rule : List (Event T) → Type 0) {D : Type 0} (c : StackWith T D) (o : Operation T) (p : Pass T (Line T)) (l : Line T) (slots : List (ℕ × Slot T)) (list : ℕ) (kind : Kind) → IsAtWith rule c o p l slots → list_step l ≡ some (list, kind) → AtStep (machine_with rule c) lists o p.seat.me.0 list kind
+  ready_step rule c o p l slots list kind at e = record { begun = begun_with rule c p; line = l; going = at.at.going; step = e }
 
   pub busy_giving : (giving : Giving T) (at : Give) → is_idle (give_line giving at) ≡ false
   busy_giving giving Load = refl
@@ -30,7 +30,7 @@ within inside a (NextOn at) = NextOn (inside at)
 within inside a (NextLost at) = NextLost (inside at)
 within inside a (NextDone x) = NextDone a
 
-module _ {T S A : Type 0} (c : Stack T) (y : Account T (Line T) (Operation T) S A) (giving : Giving T) (inside : Give → S) (a : A) (s : S)
+module _ {T S A : Type 0} {D : Type 0} (c : StackWith T D) (y : Account T (Line T) (Operation T) S A) (giving : Giving T) (inside : Give → S) (a : A) (s : S)
     (same : (at : Give) → y.operation (inside at) ≡ y.operation s) (is : (at : Give) → give_line giving at ≡ y.line (inside at)) (hand : (at : Give) → vacant giving.chain ≡ y.slots (inside at)) (knows : (at : Give) → y.knows (inside at)) (answers : ends giving.answer ≡ y.answer (y.operation s) a)
     (at : Give) (r : Outcome) (has : List (ℕ × Slot T)) where
   abbrev led : ℕ → List (ℕ × Slot T) → Line T
@@ -60,15 +60,15 @@ one_node n i nodes e low = record {
 }
 
 -- a slot in hand has another value: the pass is where it was
-pub moved : {T : Type 0} (c : Stack T) (o : Operation T) (p q : Pass T (Line T)) (l : Line T) (had has : List (ℕ × Slot T)) → IsAt c o p l had → q.seat.table_id ≡ p.seat.table_id → q.seat.me ≡ (p.seat.me.0, has) → IsAt c o q l has × (begun_of c q ≡ begun_of c p)
-moved c o p q l had has at table me =
+pub moved : {T : Type 0} (rule : List (Event T) → Type 0) {D : Type 0} (c : StackWith T D) (o : Operation T) (p q : Pass T (Line T)) (l : Line T) (had has : List (ℕ × Slot T)) → IsAtWith rule c o p l had → q.seat.table_id ≡ p.seat.table_id → q.seat.me ≡ (p.seat.me.0, has) → IsAtWith rule c o q l has × (begun_with rule c q ≡ begun_with rule c p)
+moved rule c o p q l had has at table me =
     let view : q.seat.me.0 ≡ p.seat.me.0 = ap (λ x. x.0) me in (
       record {
         table = table ∙ at.table;
         at = record {
           has = ap (λ x. x.1) me;
-          going = subst (λ v. Going (machine_of c) o v (begun_in (machine_of c) v) l) (sym view) at.at.going;
+          going = subst (λ v. Going (machine_with rule c) o v (begun_in (machine_with rule c) v) l) (sym view) at.at.going;
         };
       },
-      ap (begun_in (machine_of c)) view,
+      ap (begun_in (machine_with rule c)) view,
     )

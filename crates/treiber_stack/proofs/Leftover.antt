@@ -18,7 +18,7 @@ use Rattle.running.specs.Rule.{Rule}
 use Rattle.stack_table.specs.Layout.{top_at}
 use Rattle.stack_table.specs.Memories.{at_home}
 use Rattle.stack_table.proofs.Memories.{at_home_is}
-use Rattle.treiber_stack.specs.Prelude.{AtRoot, Line, NULL, RootView, View, index_of, link_at, shape, stack, stacked, times, times_here}
+use Rattle.treiber_stack.specs.Prelude.{AtRoot, Event, Line, NULL, RootView, View, index_of, link_at, shape, stack_with, stacked, times, times_here}
 use Rattle.treiber_stack.specs.code.Left.{count_full, on_top, values_from, left_along}
 
 -- a plain link is its own index
@@ -105,9 +105,9 @@ module _ {T : Type 0} where
   values_home homes slots same (i ∷ is) [] has = absurd has
 
   -- what a table that was closed with the root's seat has left
-  pub leaves_all : {root : Line T} {ks : Acts (Line T)} (n limit id : ℕ) (v : View T (Line T)) (r : RootView T) (words : List ℕ) (slots : List (Slot T)) (index : ℕ) → (final : Final (Seen (Rule {names = _} (stack T n limit)) id v) words slots) → v ≡ AtRoot r ks nothing root → IsSound (shape n limit) r → length slots ≤ NULL
+  pub leaves_all : {root : Line T} {ks : Acts (Line T)} (client : List (Event T) → Type 0) (n limit id : ℕ) (v : View T (Line T)) (r : RootView T) (words : List ℕ) (slots : List (Slot T)) (index : ℕ) → (final : Final (Seen (Rule {names = _} (stack_with T n limit client)) id v) words slots) → v ≡ AtRoot r ks nothing root → IsSound (shape n limit) r → length slots ≤ NULL
       → index ≡ index_of (slice_index words top_at) → Leaves (shape n limit) r (left_along words slots index) × (left_along words slots index ≡ (state (shape n limit) final.1.0.history).values)
-  leaves_all n limit id v r words slots index final is sound few top =
+  leaves_all client n limit id v r words slots index final is sound few top =
       let rule = final.1.0 in
       let s = final.0 in
       let g = rule.good.lists in

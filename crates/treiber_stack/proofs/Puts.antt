@@ -3,14 +3,14 @@ use Rattle.std.proofs.Common.{ℕ, ◌<◌, List, refl}
 use Rattle.std.specs.Prelude.{Option as Slot, Err}
 use Rattle.treiber_stack.specs.Prelude.{Finding, Leads, Next, Outcome, PutRefused, names, next}
 use Rattle.treiber_stack.specs.code.Putting.{Answer, put_account, put_line, put_slots, refusing}
-use Rattle.treiber_stack.specs.Calls.{Stack, room_of, limit_of, machine_of}
+use Rattle.treiber_stack.specs.Calls.{StackWith, room_of, limit_of, machine_of}
 use Rattle.treiber_stack.specs.declared.code.giving.Give.{Give}
 use Rattle.treiber_stack.specs.declared.code.putting.PutAt.{PutAt}
 use Rattle.treiber_stack.specs.declared.code.putting.PutAt.TheVariants.{GiveBack}
 use Rattle.treiber_stack.specs.code.Steps.{GaveTo}
 use Rattle.treiber_stack.proofs.Gives.{within, gave_within}
 
-module _ {T : Type 0} (c : Stack T) where
+module _ {T : Type 0} {D : Type 0} (c : StackWith T D) where
   -- where the code of a put goes on
   abbrev pub LeadingPut : PutAt T → Outcome → List (ℕ × Slot T) → Next (PutAt T) (Answer T) → Type 0
   LeadingPut s r has to = Finding (machine_of c).core (put_line s) r (put_slots s) has

@@ -6,17 +6,17 @@ use Rattle.bounded_model.specs.declared.history.Event.TheVariants.{Put}
 use Rattle.bounded_model.specs.Bulk.{PutsFront, PutsNone}
 use Rattle.bounded_model.specs.Laws.{RangeGives}
 use Rattle.running.specs.declared.passes.Pass as runs
-use Rattle.treiber_stack.specs.Prelude.{AnswerPut, BacksOut, Call, Closed, Deeds, Ended, FreeWord, Full, Line, Nothing, Operation, PassView, PutClosed}
-use Rattle.treiber_stack.specs.Prelude.{PutFull, PutRefused, PutSpent, PutsRange, RangeAnswers, RangeRefused, Shape, Spent, TopWord, View, call_of}
-use Rattle.treiber_stack.specs.Prelude.{ends, gave_back, handed_back, holds_of, made_refusal, own, pass_of, unplaced}
+use Rattle.treiber_stack.specs.Prelude.{AnswerPut, BacksOut, Call, Closed, Deeds, Ended, Event, FreeWord, Full, Line, Nothing, Operation, PassView}
+use Rattle.treiber_stack.specs.Prelude.{PutClosed, PutFull, PutRefused, PutSpent, PutsRange, RangeAnswers, RangeRefused, Shape, Spent, TopWord, View}
+use Rattle.treiber_stack.specs.Prelude.{call_of, ends, gave_back, handed_back, holds_of, made_refusal, own, pass_of, unplaced}
 use Rattle.treiber_stack.specs.declared.bulk.range_steps.Held.{Held}
 use Rattle.treiber_stack.specs.declared.bulk.range_steps.RangeEnd.TheVariants.{Barred as IsBarred}
 use Rattle.treiber_stack.specs.declared.code.refusing.Barred.{Barred}
 use Rattle.treiber_stack.specs.declared.code.refusing.Barred.TheVariants.{Closed as BarredClosed, Spent as BarredSpent}
-use Rattle.treiber_stack.specs.Calls.{IsRange, WasRange, WasRun, Stack, machine_of, shape_of, pass_in}
+use Rattle.treiber_stack.specs.Calls.{IsRange, WasRangeWith, WasRunWith, StackWith, machine_with, shape_of, pass_in}
 use Rattle.treiber_stack.specs.code.Ranging.{NotPut, IsOver, IsRefused, PutsOf, places_from, putting}
 use Rattle.treiber_stack.specs.code.Refusing.{barring, barring_range}
-use Rattle.treiber_stack.specs.code.Steps.{IsSeatOf, as_pass}
+use Rattle.treiber_stack.specs.code.Steps.{IsSeatWith, as_pass}
 use Rattle.treiber_stack.specs.code.KeepsAnswers.{adds_of}
 use Rattle.treiber_stack.proofs.Filling.{some_in}
 use Rattle.treiber_stack.proofs.Loading.{length_some, somes_taken, drop_some}
@@ -46,23 +46,23 @@ module _ {T : Type 0} where
   all_in (v ∷ vs) zero h e = absurd (let l : suc (length vs) ≡ 0 = ap length e in omega (arith, l))
   all_in (v ∷ vs) (suc k) h e = ap suc (all_in vs k (omega arith) e)
 
-module _ {T : Type 0} (c : Stack T) (o : Operation T) {v : View T (Line T)} {begun : PassView T} where
+module _ {T : Type 0} (rule : List (Event T) → Type 0) {D : Type 0} (c : StackWith T D) (o : Operation T) {v : View T (Line T)} {begun : PassView T} where
   -- a refused put has given back what it took
-  backs_out : (why : PutRefused (List T)) → Ended (machine_of c) o v begun (ends (AnswerPut (Err why))) → BacksOut begun (pass_of v) (length (handed_back why))
+  backs_out : (why : PutRefused (List T)) → Ended (machine_with rule c) o v begun (ends (AnswerPut (Err why))) → BacksOut begun (pass_of v) (length (handed_back why))
   backs_out why e =
       let made = made_refusal (pass_of v).number (own (pass_of v).number e.deeds.between) (call_of o) why e.deeds.made in
-      record { held = made.nodes; at_most = made.at_most; adds = adds_of c.table.shared.key e (gave_back begun.number made.nodes) (made.is ∙ ap (λ (k : ℕ). gave_back k made.nodes) e.number) }
+      record { held = made.nodes; at_most = made.at_most; adds = adds_of rule c.table.shared.key e (gave_back begun.number made.nodes) (made.is ∙ ap (λ (k : ℕ). gave_back k made.nodes) e.number) }
 
   -- no node could be had, and why nothing could be put
-  not_put_spent : (vs : List T) (t : ℕ) → Ended (machine_of c) o v begun (ends (AnswerPut (Err (PutSpent vs FreeWord t)))) → NotPut (shape_of c) begun (length vs) (pass_of v) (Spent FreeWord t)
+  not_put_spent : (vs : List T) (t : ℕ) → Ended (machine_with rule c) o v begun (ends (AnswerPut (Err (PutSpent vs FreeWord t)))) → NotPut (shape_of c) begun (length vs) (pass_of v) (Spent FreeWord t)
   not_put_spent vs t e = (backs_out (PutSpent vs FreeWord t) e, e.tells)
 
-  not_put_barred : (vs : List T) (why : Barred) → Ended (machine_of c) o v begun (ends (AnswerPut (Err (barring why vs)))) → NotPut (shape_of c) begun (length vs) (pass_of v) (barring_range why)
+  not_put_barred : (vs : List T) (why : Barred) → Ended (machine_with rule c) o v begun (ends (AnswerPut (Err (barring why vs)))) → NotPut (shape_of c) begun (length vs) (pass_of v) (barring_range why)
   not_put_barred vs BarredClosed e = (backs_out (PutClosed vs) e, e.tells)
   not_put_barred vs (BarredSpent t) e = (backs_out (PutSpent vs TopWord t) e, e.tells)
 
   -- no node was free
-  not_put_full : (vs : List T) → IsRange o vs → Ended (machine_of c) o v begun (ends (AnswerPut (Err (PutFull vs)))) → NotPut (shape_of c) begun (length vs) (pass_of v) Full
+  not_put_full : (vs : List T) → IsRange o vs → Ended (machine_with rule c) o v begun (ends (AnswerPut (Err (PutFull vs)))) → NotPut (shape_of c) begun (length vs) (pass_of v) Full
   not_put_full [] is e = absurd is
   not_put_full (x ∷ xs) is e =
       let deeds = subst (λ (k : Call T). Deeds (shape_of c) (pass_of v).number k (ends (AnswerPut (Err (PutFull (x ∷ xs))))) begun.seen (pass_of v).seen) is e.deeds in (
@@ -78,7 +78,7 @@ module _ {T : Type 0} (c : Stack T) (o : Operation T) {v : View T (Line T)} {beg
 
   -- the values that were put
   range_gives : (vs : List T) (chain : List ℕ) (k number : ℕ) → IsRange o vs → 0 < k → k ≤ length vs → length chain ≡ k
-      → Ended (machine_of c) o v begun (ends (AnswerPut (Ok (number, unplaced (putting vs chain)))))
+      → Ended (machine_with rule c) o v begun (ends (AnswerPut (Ok (number, unplaced (putting vs chain)))))
       → PutsFront (record { shape = shape_of c; from = begun; to = pass_of v }) (map Some vs) (places_from k vs) (record { number = number; count = k })
   range_gives [] chain k number is some few counted end = absurd is
   range_gives (x ∷ xs) chain k number is some few counted end =
@@ -114,31 +114,31 @@ none_gives c v w vs why h refusal = (refl, puts_none why (length (map Some vs)) 
     puts_none (Spent word t) most some r = (some, r.0, r.1)
 
 -- a put of a range has answered, and was run as one call
-module _ {T : Type 0} (c : Stack T) (o : Operation T) (begun : PassView T) (p : runs.Pass T (Line T)) (vs : List T) (is : IsRange o vs) (on : IsSeatOf c p) where
+module _ {T : Type 0} (rule : List (Event T) → Type 0) {D : Type 0} (c : StackWith T D) (o : Operation T) (begun : PassView T) (p : runs.Pass T (Line T)) (vs : List T) (is : IsRange o vs) (on : IsSeatWith rule c p) where
   abbrev Ends : Result (ℕ × List T) (PutRefused (List T)) → Type 0
-  Ends answer = Ended (machine_of c) o p.seat.me.0 begun (ends (AnswerPut answer))
+  Ends answer = Ended (machine_with rule c) o p.seat.me.0 begun (ends (AnswerPut answer))
 
-  pub put_so : (chain : List ℕ) (k number : ℕ) → 0 < k → k ≤ length vs → length chain ≡ k → Ends (Ok (number, unplaced (putting vs chain))) → PutsOf c begun vs (places_from k vs) (as_pass p) (Ok (record { number = number; count = k }))
+  pub put_so : (chain : List ℕ) (k number : ℕ) → 0 < k → k ≤ length vs → length chain ≡ k → Ends (Ok (number, unplaced (putting vs chain))) → PutsOf rule c begun vs (places_from k vs) (as_pass p) (Ok (record { number = number; count = k }))
   put_so chain k number some few counted e = (
     record { on = on; keeps = tt },
-    range_gives c o vs chain k number is some few counted e,
+    range_gives rule c o vs chain k number is some few counted e,
     e.answered,
-    (o, is, subst (λ (j : ℕ). WasRun c o begun (as_pass p) (AnswerPut (Ok (number, drop j vs)))) counted (e.ran refl)),
+    (o, is, subst (λ (j : ℕ). WasRunWith rule c o begun (as_pass p) (AnswerPut (Ok (number, drop j vs)))) counted (e.ran refl)),
   )
 
-  none_so : (why : RangeRefused) → NotPut (shape_of c) begun (length vs) (pass_in (as_pass p)) why → RangeAnswers vs (Err why) begun (pass_in (as_pass p)) → WasRange c begun vs (Err why) (as_pass p) → PutsOf c begun vs (map Some vs) (as_pass p) (Err why)
+  none_so : (why : RangeRefused) → NotPut (shape_of c) begun (length vs) (pass_in (as_pass p)) why → RangeAnswers vs (Err why) begun (pass_in (as_pass p)) → WasRangeWith rule c begun vs (Err why) (as_pass p) → PutsOf rule c begun vs (map Some vs) (as_pass p) (Err why)
   none_so why refusal answers ran = (record { on = on; keeps = tt }, none_gives (shape_of c) begun (pass_in (as_pass p)) vs why (some_in o vs is) refusal, answers, ran)
 
-  pub full_so : Ends (Err (PutFull vs)) → PutsOf c begun vs (map Some vs) (as_pass p) (Err Full)
-  full_so e = none_so Full (not_put_full c o vs is e) e.answered (o, is, e.ran refl)
+  pub full_so : Ends (Err (PutFull vs)) → PutsOf rule c begun vs (map Some vs) (as_pass p) (Err Full)
+  full_so e = none_so Full (not_put_full rule c o vs is e) e.answered (o, is, e.ran refl)
 
-  pub spent_so : (t : ℕ) → Ends (Err (PutSpent vs FreeWord t)) → PutsOf c begun vs (map Some vs) (as_pass p) (Err (Spent FreeWord t))
-  spent_so t e = none_so (Spent FreeWord t) (not_put_spent c o vs t e) e.answered (o, is, e.ran refl)
+  pub spent_so : (t : ℕ) → Ends (Err (PutSpent vs FreeWord t)) → PutsOf rule c begun vs (map Some vs) (as_pass p) (Err (Spent FreeWord t))
+  spent_so t e = none_so (Spent FreeWord t) (not_put_spent rule c o vs t e) e.answered (o, is, e.ran refl)
 
-  pub barred_so : (why : Barred) → Ends (Err (barring why vs)) → PutsOf c begun vs (map Some vs) (as_pass p) (Err (barring_range why))
-  barred_so BarredClosed e = none_so Closed (not_put_barred c o vs BarredClosed e) e.answered (o, is, e.ran refl)
-  barred_so (BarredSpent t) e = none_so (Spent TopWord t) (not_put_barred c o vs (BarredSpent t) e) e.answered (o, is, e.ran refl)
+  pub barred_so : (why : Barred) → Ends (Err (barring why vs)) → PutsOf rule c begun vs (map Some vs) (as_pass p) (Err (barring_range why))
+  barred_so BarredClosed e = none_so Closed (not_put_barred rule c o vs BarredClosed e) e.answered (o, is, e.ran refl)
+  barred_so (BarredSpent t) e = none_so (Spent TopWord t) (not_put_barred rule c o vs (BarredSpent t) e) e.answered (o, is, e.ran refl)
 
 -- a range whose values go back
-pub is_refused : {T : Type 0} (c : Stack T) (o : Operation T) (v : PassView T) (p : runs.Pass T (Line T)) (vs : List T) (held : Held) (why : Barred) → IsOver c o v p vs held (IsBarred why) → IsRefused c o p vs held why
-is_refused c o v p vs held why over = record { chain = over.chain; has = over.has; some_node = over.ends.0; at = over.ends.1.0 }
+pub is_refused : {T : Type 0} (rule : List (Event T) → Type 0) {D : Type 0} (c : StackWith T D) (o : Operation T) (v : PassView T) (p : runs.Pass T (Line T)) (vs : List T) (held : Held) (why : Barred) → IsOver rule c o v p vs held (IsBarred why) → IsRefused rule c o p vs held why
+is_refused rule c o v p vs held why over = record { chain = over.chain; has = over.has; some_node = over.ends.0; at = over.ends.1.0 }

@@ -2,9 +2,9 @@
 use Rattle.std.proofs.Common.{◌≡◌, ℕ, ◌<◌, Bool, true, false, cond, eqb, ltb, List, [], ◌∷◌, length, reverse, take, refl, sym, ap, ◌∙◌, subst, eq-eqb, ne_eqb, arith}
 use Rattle.std.specs.Prelude.{Option as Slot, None, Err}
 use Rattle.running.proofs.Going.{now_going}
-use Rattle.treiber_stack.specs.Prelude.{AnswerPut, Done, Finding, FreeWord, Leads, Line, LinkTaken, LoadFreeLine, LoadTop, LoadTopToRefuse, Next, On}
-use Rattle.treiber_stack.specs.Prelude.{Operation, Outcome, Pass, PassView, PutSpent, Putting, StopsAt, at_load_free, ends, fields_of, first, first_in}
-use Rattle.treiber_stack.specs.Prelude.{full, is_idle, last, last_in, line_in, line_now, names, next, next_node, none_of, with_node}
+use Rattle.treiber_stack.specs.Prelude.{AnswerPut, Done, Event, Finding, FreeWord, Leads, Line, LinkTaken, LoadFreeLine, LoadTop, LoadTopToRefuse}
+use Rattle.treiber_stack.specs.Prelude.{Next, On, Operation, Outcome, Pass, PassView, PutSpent, Putting, StopsAt, at_load_free, ends, fields_of}
+use Rattle.treiber_stack.specs.Prelude.{first, first_in, full, is_idle, last, last_in, line_in, line_now, names, next, next_node, none_of, with_node}
 use Rattle.treiber_stack.specs.declared.code.begun.Begun.{Begun}
 use Rattle.treiber_stack.specs.declared.bulk.range_steps.Held.{Held}
 use Rattle.treiber_stack.specs.declared.bulk.range_steps.Range.{Range}
@@ -18,22 +18,22 @@ use Rattle.treiber_stack.specs.declared.code.refusing.NoNode.{NoNode}
 use Rattle.treiber_stack.specs.declared.code.refusing.NoNode.TheVariants.{NoneFree, Spent}
 use Rattle.treiber_stack.specs.code.Begun.{line_begun, put_begun}
 use Rattle.treiber_stack.specs.code.Giving.{AreNodes}
-use Rattle.treiber_stack.specs.code.Steps.{GaveTo, IsAt}
+use Rattle.treiber_stack.specs.code.Steps.{GaveTo, IsAtWith}
 use Rattle.treiber_stack.specs.code.Ranging.{range_account, loaded, linking, refused, range_stop, range_hand, at_line, at_slots, stop_line, stop_hand, HasNodes, Stopped, TakesNode}
 use Rattle.treiber_stack.specs.code.Refusing.{RefusesNode}
-use Rattle.treiber_stack.specs.Calls.{Stack, room_of, limit_of, machine_of}
+use Rattle.treiber_stack.specs.Calls.{StackWith, room_of, limit_of, machine_of, machine_with}
 use Rattle.treiber_stack.proofs.Gives.{within, gave_within}
 use Rattle.treiber_stack.proofs.Refusals.{free_null, free_spent}
 
-module _ {T : Type 0} (c : Stack T) (o : Operation T) where
+module _ {T : Type 0} (rule : List (Event T) → Type 0) {D : Type 0} (c : StackWith T D) (o : Operation T) where
   -- a range that has stopped
-  pub stopped : (begun : PassView T) (q : Pass T (Line T)) (r : RangeStopped T) (b : Bool) → StopsAt (machine_of c) (range_account c.table.shared.key) c.table.shared.table_id b o begun q r → Stopped c o begun q (stop_line r) (stop_hand r) b
+  pub stopped : (begun : PassView T) (q : Pass T (Line T)) (r : RangeStopped T) (b : Bool) → StopsAt (machine_with rule c) (range_account c.table.shared.key) c.table.shared.table_id b o begun q r → Stopped rule c o begun q (stop_line r) (stop_hand r) b
   stopped begun q r true s = s
   stopped begun q r false s = s
 
   -- the line that some steps were begun at
-  pub begun_at : (b : Begun T) (p : Pass T (Line T)) (l : Line T) (slots : List (ℕ × Slot T)) → b.operation.value ≡ o → b.pass.value ≡ p → IsAt c o p l slots → line_begun b ≡ l
-  begun_at b p l slots of is at = ap (λ (k : Operation T). line_now names k (line_in names b.pass.value.seat.me.0)) of ∙ ap (λ (x : Pass T (Line T)). line_now names o (line_in names x.seat.me.0)) is ∙ now_going (machine_of c) at.at.going
+  pub begun_at : (b : Begun T) (p : Pass T (Line T)) (l : Line T) (slots : List (ℕ × Slot T)) → b.operation.value ≡ o → b.pass.value ≡ p → IsAtWith rule c o p l slots → line_begun b ≡ l
+  begun_at b p l slots of is at = ap (λ (k : Operation T). line_now names k (line_in names b.pass.value.seat.me.0)) of ∙ ap (λ (x : Pass T (Line T)). line_now names o (line_in names x.seat.me.0)) is ∙ now_going (machine_with rule c) at.at.going
 
 module _ {T : Type 0} where
   next_busy : (put : Putting T) → is_idle (next_node put) ≡ false
@@ -67,7 +67,7 @@ module _ {T : Type 0} where
   finds_none limit w x put NoneFree is null = ap (λ (k : ℕ). at_load_free limit put (fields_of k)) (sym is) ∙ free_null limit w put null
   finds_none limit w x put (Spent t) is high = ap (λ (k : ℕ). at_load_free limit put (fields_of k)) (sym is) ∙ free_spent limit w put t high.2 high.0 high.1
 
-module _ {T : Type 0} (c : Stack T) where
+module _ {T : Type 0} {D : Type 0} (c : StackWith T D) where
   -- the ends of a chain that is not empty
   pub are_nodes : (vs : List T) (chain : List ℕ) (held : Held) → HasNodes c vs chain held → 0 < held.count → AreNodes (room_of c) chain held.chain
   are_nodes vs chain held has some_node =
@@ -124,8 +124,9 @@ module _ {T : Type 0} (c : Stack T) where
     gave_range why at are = gave_within c (range_account c.table.shared.key) (refused put why) (λ x. record { begun = b; held = held; at = GiveBack why x }) (record { begun = b; stop = Over (GaveBack why) }) (record { begun = b; held = held; at = GiveBack why at })
         (λ x. refl) (λ x. refl) (λ x. refl) (λ x. are) refl at r has
 
-  -- a range that has stopped with a node
-  pub takes_node : (o : Operation T) (begun : PassView T) (q : Pass T (Line T)) (wanted : Putting T) (i : ℕ) → i < room_of c → Stopped c o begun q (range_stop wanted (Took i)) (range_hand wanted (Took i)) (is_idle (range_stop wanted (Took i))) → TakesNode c o begun wanted q i
+-- a range that has stopped with a node
+module _ {T : Type 0} (rule : List (Event T) → Type 0) {D : Type 0} (c : StackWith T D) where
+  pub takes_node : (o : Operation T) (begun : PassView T) (q : Pass T (Line T)) (wanted : Putting T) (i : ℕ) → i < room_of c → Stopped rule c o begun q (range_stop wanted (Took i)) (range_hand wanted (Took i)) (is_idle (range_stop wanted (Took i))) → TakesNode rule c o begun wanted q i
   takes_node o begun q wanted i low s =
-      let at = subst (Stopped c o begun q (range_stop wanted (Took i)) (range_hand wanted (Took i))) (taken_busy wanted i) s in
-      record { at = subst (λ (l : Line T). IsAt c o q l ((i, None) ∷ loaded wanted)) (taken_as wanted i) at.0; low = low; begun_is = at.1 }
+      let at = subst (Stopped rule c o begun q (range_stop wanted (Took i)) (range_hand wanted (Took i))) (taken_busy wanted i) s in
+      record { at = subst (λ (l : Line T). IsAtWith rule c o q l ((i, None) ∷ loaded wanted)) (taken_as wanted i) at.0; low = low; begun_is = at.1 }

@@ -26,10 +26,10 @@ use Rattle.treiber_stack.specs.declared.code.giving.Give.TheVariants.{Load}
 use Rattle.treiber_stack.specs.declared.bulk.range_steps.Held.{Held}
 use Rattle.treiber_stack.specs.declared.code.refusing.Barred.{Barred}
 use Rattle.treiber_stack.specs.declared.code.refusing.Barred.TheVariants.{Closed, Spent}
-use Rattle.treiber_stack.specs.code.Steps.{IsGiving, IsAt}
+use Rattle.treiber_stack.specs.code.Steps.{IsGiving, IsAtWith}
 use Rattle.treiber_stack.specs.code.Ranging.{putting, refused, IsNext, IsRefused, IsRestoring, ReadsAgain}
 use Rattle.treiber_stack.specs.code.Refusing.{barring}
-use Rattle.treiber_stack.specs.Calls.{Stack, room_of, limit_of, machine_of, shape_of, begun_of}
+use Rattle.treiber_stack.specs.Calls.{StackWith, room_of, limit_of, machine_of, machine_with, shape_of, begun_with}
 use Rattle.treiber_stack.proofs.Gives.{moved}
 use Rattle.treiber_stack.proofs.Loading.{next_value}
 use Rattle.treiber_stack.proofs.Takes.{same_value}
@@ -57,9 +57,9 @@ unfolding pred_of
 pred_is zero h = absurd (omega arith)
 pred_is (suc k) h = refl
 
-module _ {T : Type 0} (c : Stack T) where
+module _ {T : Type 0} (rule : List (Event T) → Type 0) {D : Type 0} (c : StackWith T D) where
   -- the link that was read
-  pub read_so : (v : View T (Line T)) (at found i : ℕ) → at ≡ link_at i → Peeked (machine_of c) v at found → (giving : Giving T) (before others : List ℕ) (next : ℕ) → line_in names v ≡ LoadFreeToGive giving → giving.chain ≡ before ++ i ∷ next ∷ others → index_of found ≡ next
+  pub read_so : (v : View T (Line T)) (at found i : ℕ) → at ≡ link_at i → Peeked (machine_with rule c) v at found → (giving : Giving T) (before others : List ℕ) (next : ℕ) → line_in names v ≡ LoadFreeToGive giving → giving.chain ≡ before ++ i ∷ next ∷ others → index_of found ≡ next
   read_so v at found i e peeked giving before others next line parts =
       let m = memory_of peeked.words peeked.homes in
       let fine : IsFine (limit_of c) m peeked.good.lists (line_in names v) = peeked.good.good.linked.fine peeked.seat (line_in names v) peeked.here in
@@ -68,7 +68,7 @@ module _ {T : Type 0} (c : Stack T) where
       ap index_of (sym is) ∙ plain_index (m.link i) (peeked.sane.plain (stacked.link i)) ∙ chain_link m.link before i next others (subst (λ (xs : List ℕ). IsChain m.link xs) parts gives.chained)
 
   -- a stack's passes make such loads
-  pub may_look : (v : View T (Line T)) → MayLook (machine_of c) v
+  pub may_look : (v : View T (Line T)) → MayLook (machine_with rule c) v
   may_look (AtPass p begun l) = tt
   may_look (AtRoot r ks heard l) = tt
   may_look (AtMeeting p xs k q ys l) = tt
@@ -89,7 +89,7 @@ module _ {T : Type 0} (c : Stack T) where
     busy_at (Idle a) giving e = absurd (no_start (call_of o) giving e)
     busy_at l giving e = e
 
-    line_is : {v : View T (Line T)} {begun : PassView T} {giving : Giving T} → Going (machine_of c) o v begun (LoadFreeToGive giving) → line_in names v ≡ LoadFreeToGive giving
+    line_is : {v : View T (Line T)} {begun : PassView T} {giving : Giving T} → Going (machine_with rule c) o v begun (LoadFreeToGive giving) → line_in names v ≡ LoadFreeToGive giving
     line_is {v} {begun} {giving} g = ap (line_in names) g.is ∙ busy_at g.at giving g.now
 
     -- only a put of more than one value has so many to hand back
@@ -104,8 +104,8 @@ module _ {T : Type 0} (c : Stack T) where
     puts_many p CallGauge why events made many = absurd made
 
     -- a load that belongs to no line leaves a refused put of more than one value at its line
-    looked_going : {v v' : View T (Line T)} {begun : PassView T} (chain : List ℕ) (why : PutRefused (List T)) → 1 < length (handed_back why) → Going (machine_of c) o v begun (LoadFreeToGive (record { chain = chain; answer = AnswerPut (Err why) })) → Looks (shape_of c) v v'
-        → Going (machine_of c) o v' begun (LoadFreeToGive (record { chain = chain; answer = AnswerPut (Err why) }))
+    looked_going : {v v' : View T (Line T)} {begun : PassView T} (chain : List ℕ) (why : PutRefused (List T)) → 1 < length (handed_back why) → Going (machine_with rule c) o v begun (LoadFreeToGive (record { chain = chain; answer = AnswerPut (Err why) })) → Looks (shape_of c) v v'
+        → Going (machine_with rule c) o v' begun (LoadFreeToGive (record { chain = chain; answer = AnswerPut (Err why) }))
     looked_going {v} {v'} {begun} chain why many g looks =
         let l : Line T = LoadFreeToGive (record { chain = chain; answer = AnswerPut (Err why) }) in
         let looked : Looks (shape_of c) (AtPass g.pass g.from g.at) v' = subst (λ (u : View T (Line T)). Looks (shape_of c) u v') g.is looks in
@@ -131,13 +131,14 @@ module _ {T : Type 0} (c : Stack T) where
           earlier = g.earlier;
           spent = λ busy none. absurd (none (puts_many g.pass.number (call_of o) why _ g.deeds.made many));
           answers = looked.2 ∙ g.answers;
+          deal = g.deal;
         }
 
-module _ {T : Type 0} (c : Stack T) (o : Operation T) (vs : List T) (nodes : Held) (why : Barred) where
+module _ {T : Type 0} (rule : List (Event T) → Type 0) {D : Type 0} (c : StackWith T D) (o : Operation T) (vs : List T) (nodes : Held) (why : Barred) where
   abbrev back : List ℕ → Giving T
   back chain = refused (putting vs chain) why
 
-  pub restore_start : (p : Pass T (Line T)) → IsRefused c o p vs nodes why → IsRestoring c o p vs nodes why 0 nodes.chain.first
+  pub restore_start : (p : Pass T (Line T)) → IsRefused rule c o p vs nodes why → IsRestoring rule c o p vs nodes why 0 nodes.chain.first
   restore_start p r = record {
     chain = r.chain;
     has = r.has;
@@ -146,7 +147,7 @@ module _ {T : Type 0} (c : Stack T) (o : Operation T) (vs : List T) (nodes : Hel
     parts = refl;
     counted = refl;
     next = λ _. r.has.begins;
-    at = subst (λ (zs : List (ℕ × Slot T)). IsAt c o p (LoadFreeToGive (back r.chain)) zs) (sym (append-nil (full r.chain (reverse (take (length r.chain) vs))))) r.at;
+    at = subst (λ (zs : List (ℕ × Slot T)). IsAtWith rule c o p (LoadFreeToGive (back r.chain)) zs) (sym (append-nil (full r.chain (reverse (take (length r.chain) vs))))) r.at;
   }
 
   -- a refusal hands all values back
@@ -154,7 +155,7 @@ module _ {T : Type 0} (c : Stack T) (o : Operation T) (vs : List T) (nodes : Hel
   handed_many Closed us many = many
   handed_many (Spent t) us many = many
 
-  module _ (p : Pass T (Line T)) (gone index : ℕ) (r : IsRestoring c o p vs nodes why gone index) (here : gone < nodes.count) (place : ℕ) (is : place + (1 + gone) ≡ nodes.count) where
+  module _ (p : Pass T (Line T)) (gone index : ℕ) (r : IsRestoring rule c o p vs nodes why gone index) (here : gone < nodes.count) (place : ℕ) (is : place + (1 + gone) ≡ nodes.count) where
     many : length r.left ≡ suc place
     many = let a = r.has.counted in let b : length r.chain ≡ length (r.done ++ r.left) = ap length r.parts in let d = r.counted in omega (arith, a, b, d, is, length-append r.done r.left)
 
@@ -202,14 +203,14 @@ module _ {T : Type 0} (c : Stack T) (o : Operation T) (vs : List T) (nodes : Hel
           ∙ append_assoc (full more (reverse (take place vs))) (vacant r.done) ((index, None) ∷ [])
           ∙ (λ t. full more (reverse (take (sym fewer t) vs)) ++ sym (vacant_append r.done (index ∷ [])) t)
 
-      out_so : IsAt c o q (LoadFreeToGive (back r.chain)) slots × (begun_of c q ≡ begun_of c p)
-      out_so = moved c o p q (LoadFreeToGive (back r.chain)) (full r.left (reverse (take (length r.left) vs)) ++ vacant r.done) slots r.at table (out ∙ ap (λ (zs : List (ℕ × Slot T)). (p.seat.me.0, zs)) slots_now)
+      out_so : IsAtWith rule c o q (LoadFreeToGive (back r.chain)) slots × (begun_with rule c q ≡ begun_with rule c p)
+      out_so = moved rule c o p q (LoadFreeToGive (back r.chain)) (full r.left (reverse (take (length r.left) vs)) ++ vacant r.done) slots r.at table (out ∙ ap (λ (zs : List (ℕ × Slot T)). (p.seat.me.0, zs)) slots_now)
 
       parts : r.chain ≡ (r.done ++ index ∷ []) ++ more
       parts = r.parts ∙ ap (λ (xs : List ℕ). r.done ++ xs) left_is ∙ sym (append_assoc r.done (index ∷ []) more)
 
       -- the last value is back
-      pub restore_last : place ≡ 0 → IsRestoring c o q vs nodes why (gone + 1) index × (begun_of c q ≡ begun_of c p)
+      pub restore_last : place ≡ 0 → IsRestoring rule c o q vs nodes why (gone + 1) index × (begun_with rule c q ≡ begun_with rule c p)
       restore_last z = (
         record {
           chain = r.chain;
@@ -225,13 +226,13 @@ module _ {T : Type 0} (c : Stack T) (o : Operation T) (vs : List T) (nodes : Hel
       )
 
       -- or the next node was read
-      pub restore_next : 0 < place → (next : ℕ) (s : Pass T (Line T)) → s.seat.table_id ≡ q.seat.table_id → s.seat.me.1 ≡ q.seat.me.1 → Looks (shape_of c) q.seat.me.0 s.seat.me.0 → ReadsAgain q.seat.me.0 index next → IsRestoring c o s vs nodes why (gone + 1) next × (begun_of c s ≡ begun_of c p)
+      pub restore_next : 0 < place → (next : ℕ) (s : Pass T (Line T)) → s.seat.table_id ≡ q.seat.table_id → s.seat.me.1 ≡ q.seat.me.1 → Looks (shape_of c) q.seat.me.0 s.seat.me.0 → ReadsAgain q.seat.me.0 index next → IsRestoring rule c o s vs nodes why (gone + 1) next × (begun_with rule c s ≡ begun_with rule c p)
       restore_next h next s table' same looks reads =
           let going = out_so.0.at.going in
-          let going' = looked_going c o r.chain (barring why vs) (handed_many why vs (let low = low_place in omega (arith, low, h))) going looks in
-          let kept : begun_in (machine_of c) s.seat.me.0 ≡ begun_of c q = begun_going going' in
+          let going' = looked_going rule c o r.chain (barring why vs) (handed_many why vs (let low = low_place in omega (arith, low, h))) going looks in
+          let kept : begun_in (machine_with rule c) s.seat.me.0 ≡ begun_with rule c q = begun_going going' in
           let one = parts_of more (pred_of place) (fewer ∙ pred_is place h) in
-          let line : line_in names q.seat.me.0 ≡ LoadFreeToGive (back r.chain) = line_is c o going in
+          let line : line_in names q.seat.me.0 ≡ LoadFreeToGive (back r.chain) = line_is rule c o going in
           let named : next ≡ first more = reads (back r.chain) r.done one.0 (first more) line (r.parts ∙ ap (λ (xs : List ℕ). r.done ++ xs) (left_is ∙ ap (λ (xs : List ℕ). index ∷ xs) one.1)) in (
             record {
               chain = r.chain;
@@ -245,18 +246,18 @@ module _ {T : Type 0} (c : Stack T) (o : Operation T) (vs : List T) (nodes : Hel
                 table = table' ∙ out_so.0.table;
                 at = record {
                   has = same ∙ out_so.0.at.has;
-                  going = subst (λ (b : PassView T). Going (machine_of c) o s.seat.me.0 b (LoadFreeToGive (back r.chain))) (sym kept) going';
+                  going = subst (λ (b : PassView T). Going (machine_with rule c) o s.seat.me.0 b (LoadFreeToGive (back r.chain))) (sym kept) going';
                 };
               };
             },
             kept ∙ out_so.1,
           )
         where
-          begun_going : {v : View T (Line T)} {b : PassView T} {l : Line T} → Going (machine_of c) o v b l → begun_in (machine_of c) v ≡ b
-          begun_going g = ap (begun_in (machine_of c)) g.is ∙ g.begun_is
+          begun_going : {v : View T (Line T)} {b : PassView T} {l : Line T} → Going (machine_with rule c) o v b l → begun_in (machine_with rule c) v ≡ b
+          begun_going g = ap (begun_in (machine_with rule c)) g.is ∙ g.begun_is
 
   -- all values are back
-  pub restore_done : (p : Pass T (Line T)) (gone index : ℕ) (r : IsRestoring c o p vs nodes why gone index) → gone ≡ nodes.count → 0 < nodes.count → IsGiving c o p (back r.chain) nodes.chain Load
+  pub restore_done : (p : Pass T (Line T)) (gone index : ℕ) (r : IsRestoring rule c o p vs nodes why gone index) → gone ≡ nodes.count → 0 < nodes.count → IsGiving rule c o p (back r.chain) nodes.chain Load
   restore_done p gone index r all some_node =
       let a = r.has.counted in
       let b : length r.chain ≡ length (r.done ++ r.left) = ap length r.parts in
@@ -265,7 +266,7 @@ module _ {T : Type 0} (c : Stack T) (o : Operation T) (vs : List T) (nodes : Hel
       let whole : r.chain ≡ r.done = r.parts ∙ ap (λ (xs : List ℕ). r.done ++ xs) none ∙ append-nil r.done in
       let some_there : 0 < length r.chain = omega (arith, a, some_node) in
       record {
-        line = subst (λ (zs : List (ℕ × Slot T)). IsAt c o p (LoadFreeToGive (back r.chain)) zs) (λ t. full (none t) (reverse (take (length (none t)) vs)) ++ vacant (sym whole t)) r.at;
+        line = subst (λ (zs : List (ℕ × Slot T)). IsAtWith rule c o p (LoadFreeToGive (back r.chain)) zs) (λ t. full (none t) (reverse (take (length (none t)) vs)) ++ vacant (sym whole t)) r.at;
         are = record {
           begins = r.has.begins;
           ends = r.has.ends;

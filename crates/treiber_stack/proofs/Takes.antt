@@ -7,7 +7,7 @@ use Rattle.treiber_stack.specs.declared.code.taking.TakeAt.{TakeAt}
 use Rattle.treiber_stack.specs.declared.code.taking.TakeAt.TheVariants.{GiveBack}
 use Rattle.treiber_stack.specs.declared.code.taking.Taken.{Taken}
 use Rattle.treiber_stack.specs.code.Steps.{GaveTo}
-use Rattle.treiber_stack.specs.Calls.{Stack, room_of, limit_of, machine_of}
+use Rattle.treiber_stack.specs.Calls.{StackWith, room_of, limit_of, machine_of}
 use Rattle.treiber_stack.specs.code.Taking.{Answer, take_account, giving, take_line, take_slots}
 use Rattle.treiber_stack.proofs.Gives.{within, gave_within}
 
@@ -21,7 +21,7 @@ module _ {T : Type 0} where
   same_value zs us vs i j x y e f = sym (ap (value_or x) e) ∙ ap (value_or x) f
 
 -- where the code of a take goes on
-module _ {T : Type 0} (c : Stack T) where
+module _ {T : Type 0} {D : Type 0} (c : StackWith T D) where
   abbrev pub Leading : TakeAt T → Outcome → List (ℕ × Slot T) → Next (TakeAt T) (Answer T) → Type 0
   Leading s r has to = Finding (machine_of c).core (take_line s) r (take_slots s) has
       (λ found came. Leads names (take_account c.table.shared.key) s (next (room_of c) (limit_of c) (take_line s) found came) has to)

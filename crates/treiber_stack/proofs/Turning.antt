@@ -17,7 +17,7 @@ use Rattle.treiber_stack.specs.declared.bulk.folding.Batch.{Batch}
 use Rattle.treiber_stack.specs.declared.bulk.folding.Walk.{Walk}
 use Rattle.treiber_stack.specs.declared.bulk.folding.FoldAt.TheVariants.{TakeAll, LoadToTurn, TurnLink, LoadToFold}
 use Rattle.treiber_stack.specs.code.Folding.{nodes_of, folded_of, folding, IsBatch, IsTurning}
-use Rattle.treiber_stack.specs.Calls.{Stack, room_of}
+use Rattle.treiber_stack.specs.Calls.{StackWith, room_of}
 use Rattle.treiber_stack.proofs.Folds.{Folding}
 use Rattle.treiber_stack.proofs.Walking.{is_there, goes_further, ends_here, walk_start}
 
@@ -31,7 +31,7 @@ hand_in_order n Up chain values h = record {
   as_many = length-reverse chain ∙ h.as_many ∙ sym (length-reverse values);
 }
 
-module _ {T : Type 0} (c : Stack T) where
+module _ {T : Type 0} {D : Type 0} (c : StackWith T D) where
   abbrev n : ℕ
   n = room_of c
 

@@ -11,7 +11,7 @@ use Rattle.treiber_stack.specs.declared.code.giving.Chain.{Chain}
 use Rattle.treiber_stack.specs.declared.code.giving.Give.TheVariants.{Load}
 use Rattle.treiber_stack.specs.code.Folding.{nodes_of, folded_of, folding, IsBatch, IsWalking, FoldTold}
 use Rattle.treiber_stack.specs.code.Giving.{AreNodes}
-use Rattle.treiber_stack.specs.Calls.{Stack, room_of, limit_of}
+use Rattle.treiber_stack.specs.Calls.{StackWith, room_of, limit_of}
 use Rattle.treiber_stack.proofs.Folds.{Folding}
 
 abbrev value_of : {T : Type 0} → T → List (ℕ × Slot T) → T
@@ -70,7 +70,7 @@ walk_start n b walk others batch parts start none held =
     }
 
 -- the value of the node that it has come to moves out, and the slot goes behind the others
-module _ {T : Type 0} (c : Stack T) (b : Batch T) (walk : Walk T) (W : IsWalking (room_of c) b walk) (r : Outcome) (had has : List (ℕ × Slot T)) (x : T) (value : had ≡ (walk.index, Some x) ∷ rest had) (out : has ≡ rest had ++ (walk.index, None) ∷ []) (kept : had ≡ walk.held.value.me.1)
+module _ {T : Type 0} {D : Type 0} (c : StackWith T D) (b : Batch T) (walk : Walk T) (W : IsWalking (room_of c) b walk) (r : Outcome) (had has : List (ℕ × Slot T)) (x : T) (value : had ≡ (walk.index, Some x) ∷ rest had) (out : has ≡ rest had ++ (walk.index, None) ∷ []) (kept : had ≡ walk.held.value.me.1)
     (says : (r.word ≤ NULL) × Links (nodes_of b) walk.index r.word) where
   abbrev n : ℕ
   n = room_of c

@@ -6,11 +6,12 @@ use Rattle.running.specs.Machine as running
 use Rattle.bounded_model.specs.Laws.{Call}
 use Rattle.running.specs.Passes as passes
 use Rattle.running.specs.declared.passes.Pass as runs
+use Rattle.running.specs.declared.tie.Free.{Free}
 use Rattle.bounded_model.specs.declared.views.Answered.TheVariants as answered
-use Rattle.treiber_stack.specs.Prelude.{Adds, Answer, AnswerFold, AnswerPut, Answers, CallPut, Close, Closed, Command, FoldGives, Folded, Front, Full}
-use Rattle.treiber_stack.specs.Prelude.{HasRun, IsGauged, Limits, Line, Look, LookGives, Makes, MatchStepped, Note, Nothing, Op, Operation, PassView}
-use Rattle.treiber_stack.specs.Prelude.{PassWith, Put, PutClosed, PutFull, PutGives, PutRefused, PutSpent, RangeRefused, Ranged, RootView, RootWith}
-use Rattle.treiber_stack.specs.Prelude.{Shape, Shut, Sometime, Spent, Stepped, Take, TakeGives, TakeRefused, Underway, WasRunBy}
+use Rattle.treiber_stack.specs.Prelude.{Adds, Answer, AnswerFold, AnswerPut, Answers, CallPut, Close, Closed, Command, Event, FoldGives, Folded}
+use Rattle.treiber_stack.specs.Prelude.{Front, Full, HasRun, IsGauged, Limits, Line, Look, LookGives, Makes, MatchStepped, Note, Nothing, Op}
+use Rattle.treiber_stack.specs.Prelude.{Operation, PassView, PassWith, Put, PutClosed, PutFull, PutGives, PutRefused, PutSpent, RangeRefused, Ranged}
+use Rattle.treiber_stack.specs.Prelude.{RootView, RootWith, Shape, Shut, Sometime, Spent, Stepped, Take, TakeGives, TakeRefused, Underway, WasRunBy}
 use Rattle.treiber_stack.specs.Prelude.{call_of as machine_call, capacity_of, direction, ends, in_order, names, put_answered, tag_limit_of}
 use Rattle.treiber_stack.specs.Prelude.{underway_in}
 use Rattle.treiber_stack.specs.declared.life.stack.Stack as declared
@@ -19,7 +20,7 @@ use Rattle.treiber_stack.specs.declared.code.taking.TakeAt.{TakeAt}
 use Rattle.treiber_stack.specs.declared.code.closing.MarkAt.{MarkAt}
 use Rattle.treiber_stack.specs.declared.code.looking.LookAt.{LookAt}
 use Rattle.treiber_stack.specs.declared.code.every.StackAt.{StackAt}
-use Rattle.treiber_stack.specs.code.Machine.{machine_at, is_call}
+use Rattle.treiber_stack.specs.code.Machine.{machine_at, machine_for, no_rule, is_call}
 use Rattle.treiber_stack.specs.code.Putting.{put_account}
 use Rattle.treiber_stack.specs.code.Taking.{take_account}
 use Rattle.treiber_stack.specs.code.Closing.{mark_account}
@@ -27,9 +28,12 @@ use Rattle.treiber_stack.specs.code.Looking.{look_account}
 use Rattle.treiber_stack.specs.code.Every.{every_account}
 use Rattle.treiber_stack.specs.declared.calls.gauging.Gauge.{Gauge}
 
--- a stack, its passes and its root, and the operations that its calls begin
+-- a stack whose client has given it a rule, and one with none; its passes and its root, and the operations that its calls begin
+abbrev pub StackWith : Type 0 → Type 0 → Type 0
+StackWith T D = declared.Stack T D
+
 abbrev pub Stack : Type 0 → Type 0
-Stack T = declared.Stack T
+Stack T = StackWith T Free
 
 abbrev pub Pass : Type 0 → Type 0
 Pass T = PassWith T (Line T) (Unit {0})
@@ -70,35 +74,52 @@ module _ {T : Type 0} where
   root_in r = kept.root_in r
 
   -- how many values it has room for, and the limit of its tags
-  abbrev pub room_of : Stack T → ℕ
+  abbrev pub room_of : {D : Type 0} → StackWith T D → ℕ
   room_of c = capacity_of c.table.shared.key
 
-  abbrev pub limit_of : Stack T → ℕ
+  abbrev pub limit_of : {D : Type 0} → StackWith T D → ℕ
   limit_of c = tag_limit_of c.table.shared.key
 
-  abbrev pub machine_of : Stack T → running.Machine T (Line T) (Operation T) names
+  abbrev pub machine_of : {D : Type 0} → StackWith T D → running.Machine T (Line T) (Operation T) names
   machine_of c = machine_at c.table.shared.key
 
-  abbrev pub shape_of : Stack T → Shape
+  abbrev pub shape_of : {D : Type 0} → StackWith T D → Shape
   shape_of c = (machine_of c).core.shape
 
   -- a call of one of its passes
-  abbrev pub call_of : Stack T → Pass T → Pass T → Call T
+  abbrev pub call_of : {D : Type 0} → StackWith T D → Pass T → Pass T → Call T
   call_of c by back = record { shape = shape_of c; from = pass_in by; to = pass_in back }
 
+  -- With a client's rule: its machine, a pass between its operations, as it was when its operation was begun, a root between its calls, and a note
+  -- of one of its passes. What they have seen keeps the rule
+  module _ (rule : List (Event T) → Type 0) {D : Type 0} where
+    abbrev pub machine_with : StackWith T D → running.Machine T (Line T) (Operation T) names
+    machine_with c = machine_for rule c.table.shared.key
+
+    abbrev pub begun_with : StackWith T D → runs.Pass T (Line T) → PassView T
+    begun_with c p = passes.begun_of (machine_with c) p
+
+    abbrev pub IsPassWith : StackWith T D → Pass T → Type 0
+    IsPassWith c p = kept.IsPassAt (machine_with c) keeps c.table.shared.table_id p
+
+    abbrev pub IsRootWith : StackWith T D → Root T → Type 0
+    IsRootWith c r = kept.IsRootAt (machine_with c) (stocks c.table.shared.key) c.table.shared.table_id r
+
+    abbrev pub IsNoteWith : StackWith T D → Note T (Line T) → Type 0
+    IsNoteWith c n = passes.IsNoteOn (machine_with c) c.table.shared.table_id n
+
+  -- and of a stack with none
   abbrev pub begun_of : Stack T → runs.Pass T (Line T) → PassView T
-  begun_of c p = passes.begun_of (machine_of c) p
+  begun_of c p = begun_with no_rule c p
 
-  -- a pass between its operations
   abbrev pub IsPassOf : Stack T → Pass T → Type 0
-  IsPassOf c p = kept.IsPassAt (machine_of c) keeps c.table.shared.table_id p
+  IsPassOf c p = IsPassWith no_rule c p
 
-  -- a root between its calls, and a note of one of its passes
   abbrev pub IsRootOf : Stack T → Root T → Type 0
-  IsRootOf c r = kept.IsRootAt (machine_of c) (stocks c.table.shared.key) c.table.shared.table_id r
+  IsRootOf c r = IsRootWith no_rule c r
 
   abbrev pub IsNoteOf : Stack T → Note T (Line T) → Type 0
-  IsNoteOf c n = passes.IsNoteOn (machine_of c) c.table.shared.table_id n
+  IsNoteOf c n = IsNoteWith no_rule c n
 
   -- a put of x, by its operation: the put of the value that the operation has is a put of x too
   abbrev pub IsPutting : Stack T → T → PutOp T → Type 0
@@ -124,16 +145,24 @@ module _ {T : Type 0} where
   abbrev pub making : AnyOp T → Underway T
   making op = underway_in names op.pass
 
-module _ {T : Type 0} (c : Stack T) (o : Operation T) (begun : PassView T) (back : Pass T) where
+module _ {T : Type 0} (rule : List (Event T) → Type 0) {D : Type 0} (c : StackWith T D) (o : Operation T) (begun : PassView T) (back : Pass T) where
   -- A call of this operation was begun once, when its pass was `begun`. The machine's steps of that pass since then, each an act of its
   -- own, led the operation from its first line to this answer. The pass's count is that of its acts
-  abbrev pub WasRun : Answer T → Type 0
-  WasRun answer = HasRun (machine_of c) o back.pass.seat.me.0 begun (ends answer)
+  abbrev pub WasRunWith : Answer T → Type 0
+  WasRunWith answer = HasRun (machine_with rule c) o back.pass.seat.me.0 begun (ends answer)
 
   -- the same of a fold, whose machine answers with the values of its take, in the order in which it folded them
+  abbrev pub WasFoldedWith : Front → Result Folded TakeRefused → Type 0
+  WasFoldedWith front (Ok folded) = (values : List T) × FoldGives begun (pass_in back) values folded.number × WasRunWith (AnswerFold (Ok (in_order (direction front) values, folded.number)))
+  WasFoldedWith front (Err why) = WasRunWith (AnswerFold (Err why))
+
+-- and of a stack with no rule
+module _ {T : Type 0} (c : Stack T) (o : Operation T) (begun : PassView T) (back : Pass T) where
+  abbrev pub WasRun : Answer T → Type 0
+  WasRun answer = WasRunWith no_rule c o begun back answer
+
   abbrev pub WasFolded : Front → Result Folded TakeRefused → Type 0
-  WasFolded front (Ok folded) = (values : List T) × FoldGives begun (pass_in back) values folded.number × WasRun (AnswerFold (Ok (in_order (direction front) values, folded.number)))
-  WasFolded front (Err why) = WasRun (AnswerFold (Err why))
+  WasFolded front r = WasFoldedWith no_rule c o begun back front r
 
 -- the operation is a put of these values, of which there is one
 abbrev pub IsRange : {T : Type 0} → Operation T → List T → Type 0
@@ -150,8 +179,11 @@ MatchCall vs (Err Closed) none Call = Call (AnswerPut (Err (PutClosed vs)))
 MatchCall vs (Err (Spent word t)) none Call = Call (AnswerPut (Err (PutSpent vs word t)))
 
 -- the machine has run, as one call
+abbrev pub WasRangeWith : {T : Type 0} → (List (Event T) → Type 0) → {D : Type 0} → StackWith T D → PassView T → List T → Result Ranged RangeRefused → Pass T → Type 0
+WasRangeWith {T} rule c begun vs r back = MatchCall vs r (pass_in back ≡ begun) (λ a. (o : Operation T) × IsRange o vs × WasRunWith rule c o begun back a)
+
 abbrev pub WasRange : {T : Type 0} → Stack T → PassView T → List T → Result Ranged RangeRefused → Pass T → Type 0
-WasRange {T} c begun vs r back = MatchCall vs r (pass_in back ≡ begun) (λ a. (o : Operation T) × IsRange o vs × WasRun c o begun back a)
+WasRange c begun vs r back = WasRangeWith no_rule c begun vs r back
 
 -- A gauge of a stack of n nodes with this limit changes nothing. It shows how the stack was at some time
 -- between what its pass had seen as the gauge was begun, v, and as it ended, w

@@ -69,8 +69,8 @@ pub use Rattle.stack_machine.specs.declared.lines.Line.TheVariants.{LoadTopToRef
 pub use Rattle.stack_machine.specs.declared.lines.Putting.{Putting}
 pub use Rattle.stack_machine.specs.declared.lines.Taking.{Taking}
 pub use Rattle.stack_machine.specs.declared.lines.Taking.TheVariants.{One, Whole}
-pub use Rattle.stack_table.proofs.Laws.{stack}
 pub use Rattle.stack_table.proofs.Slots.{length_in_order, vacant_append, values_full}
+pub use Rattle.stack_table.specs.Core.{stack_with}
 pub use Rattle.stack_table.specs.Layout.{link_at}
 pub use Rattle.stack_table.specs.Lines.{call_of, direction, names, next}
 pub use Rattle.stack_table.specs.Lists.{lists}

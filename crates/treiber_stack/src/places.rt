@@ -5,9 +5,9 @@ ghost use Rattle.machine.specs.declared.seats.View.{View};
 ghost use Rattle.running.specs.Rule.{Rule, line_in};
 ghost use Rattle.stack_machine.specs.declared.lines.Line.{Line};
 ghost use Rattle.stack_machine.specs.Places.{NoNodeTwice};
+ghost use Rattle.stack_table.specs.Core.{stack};
 ghost use Rattle.stack_table.specs.Lines.{names};
 ghost use Rattle.stack_table.specs.Memories.{memory_of};
-ghost use Rattle.stack_table.proofs.Laws.{stack};
 
 /// No node is in two places: each is free, on the stack, or held by one pass. This holds in any
 /// table that meets the rule of a stack of `n` nodes, as each stack's does between any two atomic

@@ -1,13 +1,18 @@
 -- The machine of a queue with these limits, which of its operations makes a call, and what an operation has answered.
-use Rattle.std.specs.Prelude.{◌≡◌}
+use Rattle.std.specs.Prelude.{◌≡◌, List}
 use Rattle.running.specs.Machine.{Machine}
+pub use Rattle.running.specs.Ties.{no_rule}
 use Rattle.queue_table.specs.declared.operation.Operation.TheVariants.{Put as PutFirst}
 use Rattle.running.specs.declared.kept.Answered as answers
-use Rattle.ms_queue.specs.Prelude.{Close, CloseFirst, Command, Limits, Line, Look, LookFirst, Operation, Put, Shape, Shut, ShutFirst, Take, TakeFirst}
-use Rattle.ms_queue.specs.Prelude.{capacity_of, names, queue, tag_limit_of}
+use Rattle.ms_queue.specs.Prelude.{Close, CloseFirst, Command, Event, Limits, Line, Look, LookFirst, Operation, Put, Shape, Shut, ShutFirst, Take, TakeFirst}
+use Rattle.ms_queue.specs.Prelude.{capacity_of, names, queue_with, tag_limit_of}
+
+-- for a client with this rule, and for one with none
+abbrev pub machine_for : {T : Type 0} → (List (Event T) → Type 0) → Limits → Machine T (Line T) (Operation T) names
+machine_for {T} rule k = queue_with T (capacity_of k) (tag_limit_of k) rule
 
 abbrev pub machine_at : {T : Type 0} → Limits → Machine T (Line T) (Operation T) names
-machine_at {T} k = queue T (capacity_of k) (tag_limit_of k)
+machine_at k = machine_for no_rule k
 
 abbrev pub shape_at : Type 0 → Limits → Shape
 shape_at T k = (machine_at {T = T} k).core.shape

@@ -8,7 +8,7 @@ ghost use Rattle.queue_table.specs.declared.operation.Operation.TheVariants.{Len
 ghost use Rattle.running.specs.Ops.{underway_of};
 ghost use Rattle.running.specs.Passes.{pass_in as pass_now};
 ghost use Rattle.running.specs.Kept.{HasNewCall};
-ghost use Rattle.ms_queue.specs.Calls.{IsCounting, IsPassOf, machine_of, pass_in, shape_of, WasRun, LenTried};
+ghost use Rattle.ms_queue.specs.Calls.{IsCounting, IsPassOf, IsPassWith, machine_of, pass_in, shape_of, WasRunWith, LenTried};
 ghost use Rattle.ms_queue.specs.code.Steps.{LenRan};
 
 use crate::code::counting::{LenAt, LenOp};
@@ -16,28 +16,10 @@ use crate::life::queue::{Answered, Pass, Queue};
 use bounded_model::Stepped;
 use queue_machine::Line;
 use queue_table::Operation;
-use running::{Next, Op, any, aside, fast_step, first_step, leave, whole};
+use running::{Next, Op, Tie, any, aside, fast_step, first_step, leave, whole};
 use std::sync::Wait;
 
 impl<T> Queue<T> {
-    /// How many values the queue held at some time since its pass's last step before the call, from
-    /// 0 to the capacity. The call retries while takes change the head. It was a run of the
-    /// machine's steps.
-    pub fn len<R: Wait>(&self, rt: &R, by: Pass<T>) -> (Pass<T>, u32)
-        requires { IsPassOf self.now by }
-        ensures of { IsPassOf self.now result.0 }
-        ensures gives { LenGives (shape_of self.now) (pass_in by) (pass_in result.0) result.1 }
-        ensures answered { Answers (pass_in by) (pass_in result.0) (LenAnswered result.1) }
-        ensures ran { WasRun self.now LenFirst (pass_in by) result.0 (AnswerLen result.1) }
-        ensures new { HasNewCall by result.0 }
-    {
-        let Pass { pass, .. } = by;
-        let len = Operation::Len;
-        let first = first_step(&self.table.shared, self, pass, LenAt::LoadHead, &len);
-        let (pass, count) = whole(rt, self, first, len);
-        (pass, count as u32)
-    }
-
     /// Begins a count, and makes no step yet. If the operation is dropped, its pass goes with it.
     #[inline]
     pub fn begin_len(&self, by: Pass<T>) -> LenOp<T>
@@ -64,16 +46,36 @@ impl<T> Queue<T> {
     }
 }
 
+impl<T, D: Tie<T>> Queue<T, D> {
+    /// How many values the queue held at some time since its pass's last step before the call, from
+    /// 0 to the capacity. The call retries while takes change the head. It was a run of the
+    /// machine's steps.
+    pub fn len<R: Wait>(&self, rt: &R, by: Pass<T>) -> (Pass<T>, u32)
+        requires { IsPassWith D.rule self.now by }
+        ensures of { IsPassWith D.rule self.now result.0 }
+        ensures gives { LenGives (shape_of self.now) (pass_in by) (pass_in result.0) result.1 }
+        ensures answered { Answers (pass_in by) (pass_in result.0) (LenAnswered result.1) }
+        ensures ran { WasRunWith D.rule self.now LenFirst (pass_in by) result.0 (AnswerLen result.1) }
+        ensures new { HasNewCall by result.0 }
+    {
+        let Pass { pass, .. } = by;
+        let len = Operation::Len;
+        let first = first_step(&self.table.shared, self, pass, LenAt::LoadHead, &len);
+        let (pass, count) = whole(rt, self, first, len);
+        (pass, count as u32)
+    }
+}
+
 // A count's four loads, as long as no other pass changes the head.
 #[inline]
-fn len_fast<T>(
-    on: &Queue<T>,
+fn len_fast<T, D: Tie<T>>(
+    on: &Queue<T, D>,
     by: Pass<T>,
     len: &Operation<T>,
 ) -> (running::Pass<T, Line<T>>, Next<LenAt, Answered<u64>>)
     requires named { len.now ≡ LenFirst }
-    requires pass { IsPassOf on.now by }
-    ensures ran { LenRan on.now len.now by.pass result.0 result.1 }
+    requires pass { IsPassWith D.rule on.now by }
+    ensures ran { LenRan D.rule on.now len.now by.pass result.0 result.1 }
     ensures took { (pass_now result.0).steps ≤ (pass_now by.pass).steps + 4 }
 {
     let Pass { pass, .. } = by;

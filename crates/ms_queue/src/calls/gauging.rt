@@ -7,13 +7,13 @@ ghost use Rattle.queue_machine.specs.declared.lines.Answer.TheVariants.{Gauge as
 ghost use Rattle.queue_table.specs.declared.operation.Operation.TheVariants.{Gauge as GaugeFirst};
 ghost use Rattle.running.specs.Ops.{underway_of};
 ghost use Rattle.running.specs.Kept.{HasNewCall};
-ghost use Rattle.ms_queue.specs.Calls.{GaugeGives, IsGauging, IsPassOf, limit_of, machine_of, pass_in, room_of, WasRun};
+ghost use Rattle.ms_queue.specs.Calls.{GaugeGives, IsGauging, IsPassOf, IsPassWith, limit_of, machine_of, pass_in, room_of, WasRunWith};
 
 use crate::code::gauging::{GaugeAt, GaugeOp};
 use crate::code::seeking::Seek;
 use crate::life::queue::{Pass, Queue};
 use queue_table::Operation;
-use running::{Op, first_step, whole};
+use running::{Op, Tie, first_step, whole};
 use std::sync::Wait;
 
 /// What a gauge shows.
@@ -26,27 +26,6 @@ pub struct Gauge {
 }
 
 impl<T> Queue<T> {
-    /// Whether the queue was closed, and how many tags were used, both at one time since its pass's
-    /// last step before the call. The call retries while others put values. It was a run of the
-    /// machine's steps. Called in `queue_tests`.
-    pub fn gauge<R: Wait>(&self, rt: &R, by: Pass<T>) -> (Pass<T>, Gauge)
-        requires { IsPassOf self.now by }
-        ensures of { IsPassOf self.now result.0 }
-        ensures gives { GaugeGives (room_of self.now) (limit_of self.now)
-            (pass_in by) (pass_in result.0) result.1 }
-        ensures answered { Answers (pass_in by) (pass_in result.0)
-            (GaugeAnswered result.1.closed result.1.used) }
-        ensures ran { WasRun self.now GaugeFirst (pass_in by) result.0
-            (AnswerGauge result.1.closed result.1.used) }
-        ensures new { HasNewCall by result.0 }
-    {
-        let Pass { pass, .. } = by;
-        let gauge = Operation::Gauge;
-        let begun = GaugeAt::Seeking(Seek::LoadTail);
-        let first = first_step(&self.table.shared, self, pass, begun, &gauge);
-        whole(rt, self, first, gauge)
-    }
-
     /// Begins a gauge, and makes no step yet. If the operation is dropped, its pass goes with it.
     #[inline]
     pub fn begin_gauge(&self, by: Pass<T>) -> GaugeOp<T>
@@ -57,5 +36,28 @@ impl<T> Queue<T> {
         let Pass { pass, .. } = by;
         let begun = GaugeAt::Seeking(Seek::LoadTail);
         Op::begin(self, pass, Operation::Gauge, begun)
+    }
+}
+
+impl<T, D: Tie<T>> Queue<T, D> {
+    /// Whether the queue was closed, and how many tags were used, both at one time since its pass's
+    /// last step before the call. The call retries while others put values. It was a run of the
+    /// machine's steps. Called in `queue_tests`.
+    pub fn gauge<R: Wait>(&self, rt: &R, by: Pass<T>) -> (Pass<T>, Gauge)
+        requires { IsPassWith D.rule self.now by }
+        ensures of { IsPassWith D.rule self.now result.0 }
+        ensures gives { GaugeGives (room_of self.now) (limit_of self.now)
+            (pass_in by) (pass_in result.0) result.1 }
+        ensures answered { Answers (pass_in by) (pass_in result.0)
+            (GaugeAnswered result.1.closed result.1.used) }
+        ensures ran { WasRunWith D.rule self.now GaugeFirst (pass_in by) result.0
+            (AnswerGauge result.1.closed result.1.used) }
+        ensures new { HasNewCall by result.0 }
+    {
+        let Pass { pass, .. } = by;
+        let gauge = Operation::Gauge;
+        let begun = GaugeAt::Seeking(Seek::LoadTail);
+        let first = first_step(&self.table.shared, self, pass, begun, &gauge);
+        whole(rt, self, first, gauge)
     }
 }

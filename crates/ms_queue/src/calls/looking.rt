@@ -9,7 +9,7 @@ ghost use Rattle.running.specs.Ops.{underway_of};
 ghost use Rattle.running.specs.Passes.{pass_in as pass_now};
 ghost use Rattle.queue_table.specs.declared.operation.Operation.TheVariants.{Look as LookFirst};
 ghost use Rattle.ms_queue.specs.code.Machine.{is_call};
-ghost use Rattle.ms_queue.specs.Calls.{IsLooking, IsPassOf, machine_of, pass_in, shape_of, LookTried};
+ghost use Rattle.ms_queue.specs.Calls.{IsLooking, IsPassOf, IsPassWith, machine_of, machine_with, pass_in, shape_of, LookTried};
 ghost use Rattle.ms_queue.specs.code.Looking.{look_account};
 ghost use Rattle.ms_queue.specs.code.Steps.{LookRan};
 
@@ -18,19 +18,19 @@ use crate::life::queue::{Answered, Pass, Queue};
 use bounded_model::Stepped;
 use queue_machine::Line;
 use queue_table::Operation;
-use running::{Next, Op, any, aside, fast_step, first_step, leave, whole};
+use running::{Next, Op, Tie, any, aside, fast_step, first_step, leave, whole};
 use std::sync::Wait;
 
 /// A look's three loads, as long as no other pass changes the head.
 #[inline(always)]
-pub(crate) fn look_fast<T>(
-    on: &Queue<T>,
+pub(crate) fn look_fast<T, D: Tie<T>>(
+    on: &Queue<T, D>,
     by: Pass<T>,
     look: &Operation<T>,
 ) -> (running::Pass<T, Line<T>>, Next<LookAt, Answered<bool>>)
     requires named { look.now ≡ LookFirst }
-    requires pass { IsPassOf on.now by }
-    ensures ran { LookRan on.now look.now by.pass result.0 result.1 }
+    requires pass { IsPassWith D.rule on.now by }
+    ensures ran { LookRan D.rule on.now look.now by.pass result.0 result.1 }
     ensures took { (pass_now result.0).steps ≤ (pass_now by.pass).steps + 3 }
 {
     let Pass { pass, .. } = by;
@@ -58,23 +58,6 @@ impl<T> Queue<T> {
         Op::begin(self, pass, Operation::Look, LookAt::LoadHead)
     }
 
-    /// Whether the queue held no value at some time since its pass's last step before the call, also
-    /// if it is closed or shut. The call was a run of the machine's steps.
-    #[inline]
-    pub fn look<R: Wait>(&self, rt: &R, by: Pass<T>) -> (Pass<T>, bool)
-        requires { IsPassOf self.now by }
-        ensures of { IsPassOf self.now result.0 }
-        ensures gives { LookGives (shape_of self.now) (pass_in by) (pass_in result.0) result.1 }
-        ensures answered { Answers (pass_in by) (pass_in result.0) (LookAnswered result.1) }
-        ensures ran { WasRun (machine_of self.now) (look_account self.now.table.shared.key)
-            (is_call LookCall) (pass_in by) result.0 result.1 }
-        ensures new { HasNewCall by result.0 }
-    {
-        let look = Operation::Look;
-        let first = look_fast(self, by, &look);
-        whole(rt, self, first, look)
-    }
-
     /// Looks on the fast path alone, as `put_at_once` puts. The call makes at most 3 steps. The
     /// answers are those of `look`.
     #[inline(always)]
@@ -87,5 +70,24 @@ impl<T> Queue<T> {
         let look = Operation::Look;
         let first = look_fast(self, by, &look);
         leave(self, first, look)
+    }
+}
+
+impl<T, D: Tie<T>> Queue<T, D> {
+    /// Whether the queue held no value at some time since its pass's last step before the call, also
+    /// if it is closed or shut. The call was a run of the machine's steps.
+    #[inline]
+    pub fn look<R: Wait>(&self, rt: &R, by: Pass<T>) -> (Pass<T>, bool)
+        requires { IsPassWith D.rule self.now by }
+        ensures of { IsPassWith D.rule self.now result.0 }
+        ensures gives { LookGives (shape_of self.now) (pass_in by) (pass_in result.0) result.1 }
+        ensures answered { Answers (pass_in by) (pass_in result.0) (LookAnswered result.1) }
+        ensures ran { WasRun (machine_with D.rule self.now) (look_account self.now.table.shared.key)
+            (is_call LookCall) (pass_in by) result.0 result.1 }
+        ensures new { HasNewCall by result.0 }
+    {
+        let look = Operation::Look;
+        let first = look_fast(self, by, &look);
+        whole(rt, self, first, look)
     }
 }

@@ -28,10 +28,11 @@ ghost use Rattle.bounded_model.specs.declared.commands.Command.TheVariants.{Put 
 ghost use Rattle.running.specs.Kept.{HasNewCall, WasRun};
 ghost use Rattle.running.specs.Ops.{underway_of};
 ghost use Rattle.running.specs.Passes.{pass_in as pass_now};
+ghost use Rattle.running.specs.Ties.{PutDeals};
 ghost use Rattle.queue_machine.specs.declared.lines.Call.TheVariants.{Put as CallPut};
 ghost use Rattle.queue_table.specs.Lines.{call_of};
 ghost use Rattle.ms_queue.specs.code.Machine.{is_call, put_of};
-ghost use Rattle.ms_queue.specs.Calls.{IsPutting, IsPassOf, machine_of, pass_in, shape_of, PutTried};
+ghost use Rattle.ms_queue.specs.Calls.{IsPutting, IsPassOf, IsPassWith, machine_of, machine_with, pass_in, shape_of, PutTried};
 ghost use Rattle.ms_queue.specs.code.Putting.{put_account};
 ghost use Rattle.ms_queue.specs.code.Steps.{PutStands, PutRan};
 ghost use Rattle.ms_queue.specs.declared.code.putting.PutAt.TheVariants.{LoadNodes};
@@ -42,15 +43,15 @@ use crate::life::queue::{Answered, Pass, Queue};
 use bounded_model::{PutRefused, Stepped};
 use queue_machine::Line;
 use queue_table::Operation;
-use running::{Next, Op, any, aside, fast_step, first_step, leave, told, whole};
+use running::{Next, Op, Tie, any, aside, fast_step, first_step, leave, told, whole};
 use std::snapshot::Snapshot;
 use std::sync::Wait;
 
 /// A put's steps on its fast path, as long as no other pass is faster. If no cell is free, these
 /// are the steps that say why nothing can be put.
 #[inline(always)]
-pub(crate) fn put_fast<T>(
-    on: &Queue<T>,
+pub(crate) fn put_fast<T, D: Tie<T>>(
+    on: &Queue<T, D>,
     by: Pass<T>,
     value: T,
     put: &Operation<T>,
@@ -59,8 +60,9 @@ pub(crate) fn put_fast<T>(
     Next<PutAt<T>, Answered<Answer<T>>>,
 )
     requires named { put.now ≡ put_of value }
-    requires pass { IsPassOf on.now by }
-    ensures ran { PutRan on.now put.now by.pass result.0 result.1 }
+    requires pass { IsPassWith D.rule on.now by }
+    requires deal { PutDeals (shape_of on.now) D.rule (pass_in by) value }
+    ensures ran { PutRan D.rule on.now put.now by.pass result.0 result.1 }
     ensures took { (pass_now result.0).steps ≤ (pass_now by.pass).steps + 14 }
 {
     let (pass, at) = fast_step!(put_fast_cell(on, by, value, put));
@@ -75,8 +77,8 @@ pub(crate) fn put_fast<T>(
 
 // First the steps that take a cell.
 #[inline]
-fn put_fast_cell<T>(
-    on: &Queue<T>,
+fn put_fast_cell<T, D: Tie<T>>(
+    on: &Queue<T, D>,
     by: Pass<T>,
     value: T,
     put: &Operation<T>,
@@ -85,8 +87,9 @@ fn put_fast_cell<T>(
     Next<PutAt<T>, Answered<Answer<T>>>,
 )
     requires named { put.now ≡ put_of value }
-    requires pass { IsPassOf on.now by }
-    ensures ran { PutRan on.now put.now by.pass result.0 result.1 }
+    requires pass { IsPassWith D.rule on.now by }
+    requires deal { PutDeals (shape_of on.now) D.rule (pass_in by) value }
+    ensures ran { PutRan D.rule on.now put.now by.pass result.0 result.1 }
     ensures took { (pass_now result.0).steps ≤ (pass_now by.pass).steps + 3 }
 {
     let Pass { pass, .. } = by;
@@ -104,8 +107,8 @@ fn put_fast_cell<T>(
 
 // The steps that say why nothing can be put, if no cell is free.
 #[inline]
-fn put_fast_refuse<T>(
-    on: &Queue<T>,
+fn put_fast_refuse<T, D: Tie<T>>(
+    on: &Queue<T, D>,
     by: running::Pass<T, Line<T>>,
     no_cell: PutAt<T>,
     put: &Operation<T>,
@@ -113,8 +116,8 @@ fn put_fast_refuse<T>(
     running::Pass<T, Line<T>>,
     Next<PutAt<T>, Answered<Answer<T>>>,
 )
-    requires stands { PutStands on.now put.now by no_cell }
-    ensures ran { PutRan on.now put.now by result.0 result.1 }
+    requires stands { PutStands D.rule on.now put.now by no_cell }
+    ensures ran { PutRan D.rule on.now put.now by result.0 result.1 }
     ensures took { (pass_now result.0).steps ≤ (pass_now by).steps + 3 }
 {
     let PutAt::Refusing(value, Seek::LoadTail) = no_cell else {
@@ -129,8 +132,8 @@ fn put_fast_refuse<T>(
 
 // Then the steps that take a node (E1).
 #[inline]
-fn put_fast_node<T>(
-    on: &Queue<T>,
+fn put_fast_node<T, D: Tie<T>>(
+    on: &Queue<T, D>,
     by: running::Pass<T, Line<T>>,
     shown: Snapshot<T>,
     cell: u32,
@@ -139,8 +142,8 @@ fn put_fast_node<T>(
     running::Pass<T, Line<T>>,
     Next<PutAt<T>, Answered<Answer<T>>>,
 )
-    requires stands { PutStands on.now put.now by (LoadNodes shown cell) }
-    ensures ran { PutRan on.now put.now by result.0 result.1 }
+    requires stands { PutStands D.rule on.now put.now by (LoadNodes shown cell) }
+    ensures ran { PutRan D.rule on.now put.now by result.0 result.1 }
     ensures took { (pass_now result.0).steps ≤ (pass_now by).steps + 3 }
 {
     let table = &on.table.shared;
@@ -160,8 +163,8 @@ fn put_fast_node<T>(
 
 // The steps that prepare the node (E2, E3).
 #[inline]
-fn put_fast_prepare<T>(
-    on: &Queue<T>,
+fn put_fast_prepare<T, D: Tie<T>>(
+    on: &Queue<T, D>,
     by: running::Pass<T, Line<T>>,
     held: PutAt<T>,
     put: &Operation<T>,
@@ -169,8 +172,8 @@ fn put_fast_prepare<T>(
     running::Pass<T, Line<T>>,
     Next<PutAt<T>, Answered<Answer<T>>>,
 )
-    requires stands { PutStands on.now put.now by held }
-    ensures ran { PutRan on.now put.now by result.0 result.1 }
+    requires stands { PutStands D.rule on.now put.now by held }
+    ensures ran { PutRan D.rule on.now put.now by result.0 result.1 }
     ensures took { (pass_now result.0).steps ≤ (pass_now by).steps + 3 }
 {
     let PutAt::StoreCell(shown, held) = held else {
@@ -187,8 +190,8 @@ fn put_fast_prepare<T>(
 
 // The steps that go to the end of the chain (E5 to E8).
 #[inline]
-fn put_fast_seek<T>(
-    on: &Queue<T>,
+fn put_fast_seek<T, D: Tie<T>>(
+    on: &Queue<T, D>,
     by: running::Pass<T, Line<T>>,
     prepared: PutAt<T>,
     put: &Operation<T>,
@@ -196,8 +199,8 @@ fn put_fast_seek<T>(
     running::Pass<T, Line<T>>,
     Next<PutAt<T>, Answered<Answer<T>>>,
 )
-    requires stands { PutStands on.now put.now by prepared }
-    ensures ran { PutRan on.now put.now by result.0 result.1 }
+    requires stands { PutStands D.rule on.now put.now by prepared }
+    ensures ran { PutRan D.rule on.now put.now by result.0 result.1 }
     ensures took { (pass_now result.0).steps ≤ (pass_now by).steps + 3 }
 {
     let PutAt::Seeking(shown, held, Seek::LoadTail) = prepared else {
@@ -212,8 +215,8 @@ fn put_fast_seek<T>(
 
 // The steps that link the node there (E9) and swing the tail (E17).
 #[inline]
-fn put_fast_link<T>(
-    on: &Queue<T>,
+fn put_fast_link<T, D: Tie<T>>(
+    on: &Queue<T, D>,
     by: running::Pass<T, Line<T>>,
     there: PutAt<T>,
     put: &Operation<T>,
@@ -221,8 +224,8 @@ fn put_fast_link<T>(
     running::Pass<T, Line<T>>,
     Next<PutAt<T>, Answered<Answer<T>>>,
 )
-    requires stands { PutStands on.now put.now by there }
-    ensures ran { PutRan on.now put.now by result.0 result.1 }
+    requires stands { PutStands D.rule on.now put.now by there }
+    ensures ran { PutRan D.rule on.now put.now by result.0 result.1 }
     ensures took { (pass_now result.0).steps ≤ (pass_now by).steps + 2 }
 {
     let PutAt::LinkNext(shown, held, tail, link) = there else {
@@ -284,12 +287,7 @@ impl<T> Queue<T> {
             (is_call (PutCall value)) (pass_in by) result.0 result.1 }
         ensures new { HasNewCall by result.0 }
     {
-        let put = put_operation(&value);
-        // Looked at here, before a call copies it, so that the answer need not go through memory.
-        match put_fast(self, by, value, &put) {
-            (pass, Next::Done(answer)) => told(pass, answer),
-            under_way => whole(rt, self, under_way, put),
-        }
+        self.put_as(rt, by, value)
     }
 
     /// Puts a value on the fast path alone, with a wait of at most 640 spin hints if a
@@ -313,6 +311,38 @@ impl<T> Queue<T> {
                 Stepped::Done(back, reply)
             }
             under_way => leave(self, under_way, put),
+        }
+    }
+}
+
+impl<T, D: Tie<T>> Queue<T, D> {
+    /// Puts a value as `put` does, in a queue with a rule of its client. The caller shows that the
+    /// put keeps the rule, whichever history it finds at its effect. What its pass has then seen
+    /// keeps the rule, whatever the answer is.
+    #[inline(always)]
+    pub fn put_as<R: Wait>(
+        &self,
+        rt: &R,
+        by: Pass<T>,
+        value: T,
+    ) -> (Pass<T>, Result<u64, PutRefused<T>>)
+        requires pass { IsPassWith D.rule self.now by }
+        requires deal { PutDeals (shape_of self.now) D.rule (pass_in by) value }
+        ensures of { IsPassWith D.rule self.now result.0 }
+        ensures tied { D.rule (pass_in result.0).seen }
+        ensures gives { PutGives (shape_of self.now) (pass_in by) value (pass_in result.0)
+            result.1 }
+        ensures answered { Answers (pass_in by) (pass_in result.0) (put_answered result.1) }
+        ensures ran { WasRun (machine_with D.rule self.now)
+            (put_account self.now.table.shared.key)
+            (is_call (PutCall value)) (pass_in by) result.0 result.1 }
+        ensures new { HasNewCall by result.0 }
+    {
+        let put = put_operation(&value);
+        // Looked at here, before a call copies it, so that the answer need not go through memory.
+        match put_fast(self, by, value, &put) {
+            (pass, Next::Done(answer)) => told(pass, answer),
+            under_way => whole(rt, self, under_way, put),
         }
     }
 }

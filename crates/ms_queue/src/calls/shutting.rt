@@ -6,14 +6,15 @@ ghost use Rattle.bounded_model.specs.declared.commands.Command.TheVariants.{Shut
 ghost use Rattle.bounded_model.specs.declared.views.Answered.TheVariants.{Shut as ShutAnswered};
 ghost use Rattle.running.specs.Kept.{HasNewCall, WasRun};
 ghost use Rattle.running.specs.Ops.{underway_of};
+ghost use Rattle.running.specs.Ties.{ShutDeals};
 ghost use Rattle.ms_queue.specs.code.Machine.{is_call};
-ghost use Rattle.ms_queue.specs.Calls.{IsShutting, IsPassOf, machine_of, pass_in, shape_of};
+ghost use Rattle.ms_queue.specs.Calls.{IsShutting, IsPassOf, IsPassWith, machine_of, machine_with, pass_in, shape_of};
 ghost use Rattle.ms_queue.specs.code.Shutting.{shut_account};
 
 use crate::code::shutting::{ShutAt, ShutOp};
 use crate::life::queue::{Pass, Queue};
 use queue_table::Operation;
-use running::{Next, Op, whole};
+use running::{Next, Op, Tie, whole};
 use std::sync::Wait;
 
 impl<T> Queue<T> {
@@ -41,11 +42,32 @@ impl<T> Queue<T> {
             (is_call ShutCall) (pass_in by) result.0 result.1 }
         ensures new { HasNewCall by result.0 }
     {
+        self.shut_as(rt, by)
+    }
+}
+
+impl<T, D: Tie<T>> Queue<T, D> {
+    /// Shuts the queue as `shut` does, if it has a rule of its client, as `put_as` puts a value.
+    #[inline]
+    pub fn shut_as<R: Wait>(&self, rt: &R, by: Pass<T>) -> (Pass<T>, bool)
+        requires pass { IsPassWith D.rule self.now by }
+        requires deal { ShutDeals (shape_of self.now) D.rule (pass_in by) }
+        ensures of { IsPassWith D.rule self.now result.0 }
+        ensures tied { D.rule (pass_in result.0).seen }
+        ensures gives { ShutGives (shape_of self.now) (pass_in by) (pass_in result.0) result.1 }
+        ensures answered { Answers (pass_in by) (pass_in result.0) (ShutAnswered result.1) }
+        ensures ran { WasRun (machine_with D.rule self.now)
+            (shut_account self.now.table.shared.key)
+            (is_call ShutCall) (pass_in by) result.0 result.1 }
+        ensures new { HasNewCall by result.0 }
+    {
+        let Pass { pass, .. } = by;
+        let first = ShutAt::LoadHead;
         let Op {
             pass,
             operation,
             at,
-        } = self.begin_shut(by);
+        } = Op::begin(self, pass, Operation::Shut, first);
         whole(rt, self, (pass, Next::On(at)), operation)
     }
 }

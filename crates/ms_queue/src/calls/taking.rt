@@ -24,9 +24,10 @@ ghost use Rattle.bounded_model.specs.declared.views.Answered.TheVariants.{Take a
 ghost use Rattle.running.specs.Kept.{HasNewCall, WasRun};
 ghost use Rattle.running.specs.Ops.{underway_of};
 ghost use Rattle.running.specs.Passes.{pass_in as pass_now};
+ghost use Rattle.running.specs.Ties.{TakeDeals};
 ghost use Rattle.queue_table.specs.declared.operation.Operation.TheVariants.{Take as TakeFirst};
 ghost use Rattle.ms_queue.specs.code.Machine.{is_call};
-ghost use Rattle.ms_queue.specs.Calls.{IsPassOf, machine_of, pass_in, shape_of, IsTaking, TakeTried};
+ghost use Rattle.ms_queue.specs.Calls.{IsPassOf, IsPassWith, machine_of, machine_with, pass_in, shape_of, IsTaking, TakeTried};
 ghost use Rattle.ms_queue.specs.code.Taking.{take_account};
 ghost use Rattle.ms_queue.specs.code.Steps.{TakeStands, TakeRan};
 
@@ -36,13 +37,13 @@ use crate::life::queue::{Answered, Pass, Queue};
 use bounded_model::{Stepped, TakeRefused};
 use queue_machine::Line;
 use queue_table::Operation;
-use running::{Next, Op, any, aside, fast_step, first_step, leave, told, whole};
+use running::{Next, Op, Tie, any, aside, fast_step, first_step, leave, told, whole};
 use std::sync::Wait;
 
 /// A take's steps on its fast path, as long as no other pass is faster.
 #[inline(always)]
-pub(crate) fn take_fast<T>(
-    on: &Queue<T>,
+pub(crate) fn take_fast<T, D: Tie<T>>(
+    on: &Queue<T, D>,
     by: Pass<T>,
     take: &Operation<T>,
 ) -> (
@@ -50,8 +51,9 @@ pub(crate) fn take_fast<T>(
     Next<TakeAt<T>, Answered<Answer<T>>>,
 )
     requires named { take.now ≡ TakeFirst }
-    requires pass { IsPassOf on.now by }
-    ensures ran { TakeRan on.now take.now by.pass result.0 result.1 }
+    requires pass { IsPassWith D.rule on.now by }
+    requires deal { TakeDeals (shape_of on.now) D.rule (pass_in by) }
+    ensures ran { TakeRan D.rule on.now take.now by.pass result.0 result.1 }
     ensures took { (pass_now result.0).steps ≤ (pass_now by.pass).steps + 12 }
 {
     let (pass, at) = fast_step!(take_fast_read(on, by, take));
@@ -62,8 +64,8 @@ pub(crate) fn take_fast<T>(
 
 // First the steps that read the head, the tail and the link of the dummy (D2 to D4).
 #[inline]
-fn take_fast_read<T>(
-    on: &Queue<T>,
+fn take_fast_read<T, D: Tie<T>>(
+    on: &Queue<T, D>,
     by: Pass<T>,
     take: &Operation<T>,
 ) -> (
@@ -71,8 +73,9 @@ fn take_fast_read<T>(
     Next<TakeAt<T>, Answered<Answer<T>>>,
 )
     requires named { take.now ≡ TakeFirst }
-    requires pass { IsPassOf on.now by }
-    ensures ran { TakeRan on.now take.now by.pass result.0 result.1 }
+    requires pass { IsPassWith D.rule on.now by }
+    requires deal { TakeDeals (shape_of on.now) D.rule (pass_in by) }
+    ensures ran { TakeRan D.rule on.now take.now by.pass result.0 result.1 }
     ensures took { (pass_now result.0).steps ≤ (pass_now by.pass).steps + 3 }
 {
     let Pass { pass, .. } = by;
@@ -90,8 +93,8 @@ fn take_fast_read<T>(
 
 // Then the steps that take the first value (D5 to D13).
 #[inline]
-fn take_fast_head<T>(
-    on: &Queue<T>,
+fn take_fast_head<T, D: Tie<T>>(
+    on: &Queue<T, D>,
     by: running::Pass<T, Line<T>>,
     read: TakeAt<T>,
     take: &Operation<T>,
@@ -100,8 +103,8 @@ fn take_fast_head<T>(
     Next<TakeAt<T>, Answered<Answer<T>>>,
 )
     requires named { take.now ≡ TakeFirst }
-    requires stands { TakeStands on.now by read }
-    ensures ran { TakeRan on.now take.now by result.0 result.1 }
+    requires stands { TakeStands D.rule on.now by read }
+    ensures ran { TakeRan D.rule on.now take.now by result.0 result.1 }
     ensures took { (pass_now result.0).steps ≤ (pass_now by).steps + 3 }
 {
     let TakeAt::CheckHead(head, tail, link) = read else {
@@ -121,8 +124,8 @@ fn take_fast_head<T>(
 
 // The steps that give the old dummy back (D19).
 #[inline]
-fn take_fast_node<T>(
-    on: &Queue<T>,
+fn take_fast_node<T, D: Tie<T>>(
+    on: &Queue<T, D>,
     by: running::Pass<T, Line<T>>,
     won: TakeAt<T>,
     take: &Operation<T>,
@@ -131,8 +134,8 @@ fn take_fast_node<T>(
     Next<TakeAt<T>, Answered<Answer<T>>>,
 )
     requires named { take.now ≡ TakeFirst }
-    requires stands { TakeStands on.now by won }
-    ensures ran { TakeRan on.now take.now by result.0 result.1 }
+    requires stands { TakeStands D.rule on.now by won }
+    ensures ran { TakeRan D.rule on.now take.now by result.0 result.1 }
     ensures took { (pass_now result.0).steps ≤ (pass_now by).steps + 3 }
 {
     let TakeAt::GiveBack(taken, Give::LoadNodes) = won else {
@@ -147,8 +150,8 @@ fn take_fast_node<T>(
 
 // The steps that give the cell back.
 #[inline]
-fn take_fast_cell<T>(
-    on: &Queue<T>,
+fn take_fast_cell<T, D: Tie<T>>(
+    on: &Queue<T, D>,
     by: running::Pass<T, Line<T>>,
     given: TakeAt<T>,
     take: &Operation<T>,
@@ -157,8 +160,8 @@ fn take_fast_cell<T>(
     Next<TakeAt<T>, Answered<Answer<T>>>,
 )
     requires named { take.now ≡ TakeFirst }
-    requires stands { TakeStands on.now by given }
-    ensures ran { TakeRan on.now take.now by result.0 result.1 }
+    requires stands { TakeStands D.rule on.now by given }
+    ensures ran { TakeRan D.rule on.now take.now by result.0 result.1 }
     ensures took { (pass_now result.0).steps ≤ (pass_now by).steps + 3 }
 {
     let TakeAt::GiveBack(taken, Give::LoadCells) = given else {
@@ -201,12 +204,7 @@ impl<T> Queue<T> {
             (is_call TakeCall) (pass_in by) result.0 result.1 }
         ensures new { HasNewCall by result.0 }
     {
-        let take = Operation::Take;
-        // Looked at here for the same reason as in `put`.
-        match take_fast(self, by, &take) {
-            (pass, Next::Done(answer)) => told(pass, answer),
-            under_way => whole(rt, self, under_way, take),
-        }
+        self.take_as(rt, by)
     }
 
     /// Takes a value on the fast path alone, as `put_at_once` puts one. The call makes at most 12
@@ -228,6 +226,30 @@ impl<T> Queue<T> {
                 Stepped::Done(back, reply)
             }
             under_way => leave(self, under_way, take),
+        }
+    }
+}
+
+impl<T, D: Tie<T>> Queue<T, D> {
+    /// Takes a value as `take` does, in a queue with a rule of its client, as `put_as` puts one.
+    #[inline(always)]
+    pub fn take_as<R: Wait>(&self, rt: &R, by: Pass<T>) -> (Pass<T>, Result<(T, u64), TakeRefused>)
+        requires pass { IsPassWith D.rule self.now by }
+        requires deal { TakeDeals (shape_of self.now) D.rule (pass_in by) }
+        ensures of { IsPassWith D.rule self.now result.0 }
+        ensures tied { D.rule (pass_in result.0).seen }
+        ensures gives { TakeGives (shape_of self.now) (pass_in by) (pass_in result.0) result.1 }
+        ensures answered { Answers (pass_in by) (pass_in result.0) (TakeAnswered result.1) }
+        ensures ran { WasRun (machine_with D.rule self.now)
+            (take_account self.now.table.shared.key)
+            (is_call TakeCall) (pass_in by) result.0 result.1 }
+        ensures new { HasNewCall by result.0 }
+    {
+        let take = Operation::Take;
+        // Looked at here for the same reason as in `put_as`.
+        match take_fast(self, by, &take) {
+            (pass, Next::Done(answer)) => told(pass, answer),
+            under_way => whole(rt, self, under_way, take),
         }
     }
 }

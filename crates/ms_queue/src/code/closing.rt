@@ -9,7 +9,7 @@ use machine::seats::View;
 use queue_machine::Line;
 use queue_table::Operation;
 use queue_table::layout::next;
-use running::{Access, Code, Next, Op, Outcome, Replies, raised};
+use running::{Access, Code, Next, Op, Outcome, Replies, Tie, raised};
 use tagged_index::{NULL, Tagged};
 
 /// A close that was begun.
@@ -24,13 +24,14 @@ pub enum CloseAt {
     Mark(Tagged, Tagged),
 }
 
-impl<T> Code<Queue<T>, T, Line<T>, Operation<T>, Queued, Answered<bool>, 2> for CloseAt {
+impl<T, D: Tie<T>> Code<Queue<T, D>, T, Line<T>, Operation<T>, Queued<D>, Answered<bool>, 2>
+    for CloseAt {
     ghost use Rattle.ms_queue.specs.code.Closing.{close_account};
 
     ghost account = { close_account };
 
     #[inline(always)]
-    fn access(&self, on: &Queue<T>) -> Access {
+    fn access(&self, on: &Queue<T, D>) -> Access {
         match self {
             CloseAt::Seeking(at) => seek_access(on, at),
             CloseAt::Mark(tail, link) => {
@@ -43,7 +44,7 @@ impl<T> Code<Queue<T>, T, Line<T>, Operation<T>, Queued, Answered<bool>, 2> for 
     #[inline(always)]
     fn next(
         self,
-        on: &Queue<T>,
+        on: &Queue<T, D>,
         _seat: &mut Seat<Option<T>, View<T, Line<T>>>,
         outcome: Outcome,
     ) -> Next<CloseAt, Answered<bool>> {
@@ -73,7 +74,8 @@ impl<T> Code<Queue<T>, T, Line<T>, Operation<T>, Queued, Answered<bool>, 2> for 
     }
 }
 
-impl<T> Replies<Queue<T>, T, Line<T>, Operation<T>, Queued, (), bool, 2> for CloseAt {
+impl<T, D: Tie<T>> Replies<Queue<T, D>, T, Line<T>, Operation<T>, Queued<D>, (), bool, 2>
+    for CloseAt {
     ghost use Rattle.std.specs.Prelude.{refl};
     ghost use Rattle.ms_queue.specs.code.KeepsAnswers.{close_given, close_promises};
 
@@ -81,7 +83,7 @@ impl<T> Replies<Queue<T>, T, Line<T>, Operation<T>, Queued, (), bool, 2> for Clo
 
     ghost idle = { λ key o answer. refl };
 
-    ghost given = { close_given };
+    ghost given = { close_given D.rule };
 
     ghost kept = { λ key o answer. tt };
 }

@@ -8,7 +8,7 @@ use machine::View;
 use queue_machine::Line;
 use queue_table::Operation;
 use queue_table::layout::{HEAD, TAIL, next};
-use running::{Access, Code, Next, Op, Outcome, Replies};
+use running::{Access, Code, Next, Op, Outcome, Replies, Tie};
 use tagged_index::{NULL, Tagged};
 
 /// A count that was begun.
@@ -27,13 +27,14 @@ pub enum LenAt {
     CheckHead(Tagged, Tagged, Tagged),
 }
 
-impl<T> Code<Queue<T>, T, Line<T>, Operation<T>, Queued, Answered<u64>, 2> for LenAt {
+impl<T, D: Tie<T>> Code<Queue<T, D>, T, Line<T>, Operation<T>, Queued<D>, Answered<u64>, 2>
+    for LenAt {
     ghost use Rattle.ms_queue.specs.code.Counting.{len_account};
 
     ghost account = { len_account };
 
     #[inline(always)]
-    fn access(&self, _on: &Queue<T>) -> Access {
+    fn access(&self, _on: &Queue<T, D>) -> Access {
         match self {
             LenAt::LoadHead => Access::Load(HEAD),
             LenAt::LoadTail(_) => Access::Load(TAIL),
@@ -45,7 +46,7 @@ impl<T> Code<Queue<T>, T, Line<T>, Operation<T>, Queued, Answered<u64>, 2> for L
     #[inline(always)]
     fn next(
         self,
-        _on: &Queue<T>,
+        _on: &Queue<T, D>,
         _seat: &mut Seat<Option<T>, View<T, Line<T>>>,
         outcome: Outcome,
     ) -> Next<LenAt, Answered<u64>> {
@@ -73,7 +74,7 @@ impl<T> Code<Queue<T>, T, Line<T>, Operation<T>, Queued, Answered<u64>, 2> for L
     }
 }
 
-impl<T> Replies<Queue<T>, T, Line<T>, Operation<T>, Queued, (), u64, 2> for LenAt {
+impl<T, D: Tie<T>> Replies<Queue<T, D>, T, Line<T>, Operation<T>, Queued<D>, (), u64, 2> for LenAt {
     ghost use Rattle.std.specs.Prelude.{refl};
     ghost use Rattle.ms_queue.specs.code.KeepsGauge.{len_given, len_promises};
 
@@ -81,7 +82,7 @@ impl<T> Replies<Queue<T>, T, Line<T>, Operation<T>, Queued, (), u64, 2> for LenA
 
     ghost idle = { λ key o answer. refl };
 
-    ghost given = { len_given };
+    ghost given = { len_given D.rule };
 
     ghost kept = { λ key o answer. tt };
 }

@@ -1,7 +1,7 @@
 //! Every call of a queue as one operation.
 ghost use Rattle.std.specs.Prelude.{◌≡◌};
 ghost use Rattle.bounded_model.specs.declared.commands.Command.TheVariants.{Put as PutCall, Take as TakeCall, Look as LookCall};
-ghost use Rattle.ms_queue.specs.Calls.{IsLooking, IsPutting, Queue, IsMakingCall, IsTaking};
+ghost use Rattle.ms_queue.specs.Calls.{IsLooking, IsPutting, Queue as FreeQueue, IsMakingCall, IsTaking};
 
 use crate::code::closing::CloseAt;
 use crate::code::looking::{LookAt, LookOp};
@@ -15,7 +15,7 @@ use bounded_model::Reply;
 use machine::View;
 use queue_machine::Line;
 use queue_table::Operation;
-use running::{Access, Code, Next, Op, Outcome, Replies};
+use running::{Access, Code, Next, Op, Outcome, Replies, Tie};
 
 /// A put, a take, a close, a shut or a look that was begun. A count and a gauge have types of their
 /// own.
@@ -35,7 +35,7 @@ impl<T> QueueAt<T> {
     /// A put that was begun, as an operation of any call.
     #[inline(always)]
     pub fn of_put(op: PutOp<T>) -> AnyOp<T>
-        ensures makes { (c : Queue T) (x : T) → IsPutting c x op → IsMakingCall c (PutCall x) result }
+        ensures makes { (c : FreeQueue T) (x : T) → IsPutting c x op → IsMakingCall c (PutCall x) result }
         ensures same { result.pass ≡ op.pass }
     {
         let Op {
@@ -53,7 +53,7 @@ impl<T> QueueAt<T> {
     /// A take that was begun, as an operation of any call.
     #[inline(always)]
     pub fn of_take(op: TakeOp<T>) -> AnyOp<T>
-        ensures makes { (c : Queue T) → IsTaking c op → IsMakingCall c TakeCall result }
+        ensures makes { (c : FreeQueue T) → IsTaking c op → IsMakingCall c TakeCall result }
         ensures same { result.pass ≡ op.pass }
     {
         let Op {
@@ -71,7 +71,7 @@ impl<T> QueueAt<T> {
     /// A look that was begun, as an operation of any call.
     #[inline(always)]
     pub fn of_look(op: LookOp<T>) -> AnyOp<T>
-        ensures makes { (c : Queue T) → IsLooking c op → IsMakingCall c LookCall result }
+        ensures makes { (c : FreeQueue T) → IsLooking c op → IsMakingCall c LookCall result }
         ensures same { result.pass ≡ op.pass }
     {
         let Op {
@@ -87,7 +87,8 @@ impl<T> QueueAt<T> {
     }
 }
 
-impl<T> Code<Queue<T>, T, Line<T>, Operation<T>, Queued, Answered<Reply<T>>, 2> for QueueAt<T> {
+impl<T, D: Tie<T>> Code<Queue<T, D>, T, Line<T>, Operation<T>, Queued<D>, Answered<Reply<T>>, 2>
+    for QueueAt<T> {
     ghost use Rattle.ms_queue.specs.code.Every.{every_account};
 
     ghost account = { every_account };
@@ -102,7 +103,7 @@ impl<T> Code<Queue<T>, T, Line<T>, Operation<T>, Queued, Answered<Reply<T>>, 2> 
     }
 
     #[inline(always)]
-    fn access(&self, on: &Queue<T>) -> Access {
+    fn access(&self, on: &Queue<T, D>) -> Access {
         match self {
             QueueAt::Put(at) => at.access(on),
             QueueAt::Take(at) => at.access(on),
@@ -115,7 +116,7 @@ impl<T> Code<Queue<T>, T, Line<T>, Operation<T>, Queued, Answered<Reply<T>>, 2> 
     #[inline(always)]
     fn next(
         self,
-        on: &Queue<T>,
+        on: &Queue<T, D>,
         seat: &mut Seat<Option<T>, View<T, Line<T>>>,
         outcome: Outcome,
     ) -> Next<QueueAt<T>, Answered<Reply<T>>> {
@@ -179,7 +180,8 @@ impl<T> Code<Queue<T>, T, Line<T>, Operation<T>, Queued, Answered<Reply<T>>, 2> 
     }
 }
 
-impl<T> Replies<Queue<T>, T, Line<T>, Operation<T>, Queued, (), Reply<T>, 2> for QueueAt<T> {
+impl<T, D: Tie<T>> Replies<Queue<T, D>, T, Line<T>, Operation<T>, Queued<D>, (), Reply<T>, 2>
+    for QueueAt<T> {
     ghost use Rattle.std.specs.Prelude.{refl};
     ghost use Rattle.ms_queue.specs.code.KeepsEvery.{every_given, every_promises};
 
@@ -187,7 +189,7 @@ impl<T> Replies<Queue<T>, T, Line<T>, Operation<T>, Queued, (), Reply<T>, 2> for
 
     ghost idle = { λ key o answer. refl };
 
-    ghost given = { every_given };
+    ghost given = { every_given D.rule };
 
     ghost kept = { λ key o answer. tt };
 }

@@ -9,7 +9,7 @@ use machine::seats::View;
 use queue_machine::Line;
 use queue_table::Operation;
 use queue_table::layout::next;
-use running::{Access, Code, Next, Op, Outcome, Replies};
+use running::{Access, Code, Next, Op, Outcome, Replies, Tie};
 use tagged_index::Tagged;
 
 /// A gauge that was begun.
@@ -24,13 +24,14 @@ pub enum GaugeAt {
     CheckNext(Tagged, Tagged),
 }
 
-impl<T> Code<Queue<T>, T, Line<T>, Operation<T>, Queued, Answered<Gauge>, 2> for GaugeAt {
+impl<T, D: Tie<T>> Code<Queue<T, D>, T, Line<T>, Operation<T>, Queued<D>, Answered<Gauge>, 2>
+    for GaugeAt {
     ghost use Rattle.ms_queue.specs.code.Gauging.{gauge_account};
 
     ghost account = { gauge_account };
 
     #[inline(always)]
-    fn access(&self, on: &Queue<T>) -> Access {
+    fn access(&self, on: &Queue<T, D>) -> Access {
         match self {
             GaugeAt::Seeking(at) => seek_access(on, at),
             GaugeAt::CheckNext(tail, _) => Access::Load(next(tail.index())),
@@ -40,7 +41,7 @@ impl<T> Code<Queue<T>, T, Line<T>, Operation<T>, Queued, Answered<Gauge>, 2> for
     #[inline(always)]
     fn next(
         self,
-        on: &Queue<T>,
+        on: &Queue<T, D>,
         _seat: &mut Seat<Option<T>, View<T, Line<T>>>,
         outcome: Outcome,
     ) -> Next<GaugeAt, Answered<Gauge>> {
@@ -78,7 +79,8 @@ impl<T> Code<Queue<T>, T, Line<T>, Operation<T>, Queued, Answered<Gauge>, 2> for
     }
 }
 
-impl<T> Replies<Queue<T>, T, Line<T>, Operation<T>, Queued, (), Gauge, 2> for GaugeAt {
+impl<T, D: Tie<T>> Replies<Queue<T, D>, T, Line<T>, Operation<T>, Queued<D>, (), Gauge, 2>
+    for GaugeAt {
     ghost use Rattle.std.specs.Prelude.{refl};
     ghost use Rattle.ms_queue.specs.code.KeepsGauge.{gauge_given, gauge_promises};
 
@@ -86,7 +88,7 @@ impl<T> Replies<Queue<T>, T, Line<T>, Operation<T>, Queued, (), Gauge, 2> for Ga
 
     ghost idle = { λ key o answer. refl };
 
-    ghost given = { gauge_given };
+    ghost given = { gauge_given D.rule };
 
     ghost kept = { λ key o answer. tt };
 }

@@ -10,7 +10,7 @@ ghost use Rattle.ms_queue.specs.code.Steps.{GaveTo};
 
 use crate::life::queue::Queue;
 use queue_table::layout::{CELL_LIST, NODE_LIST};
-use running::{Access, Next, Outcome};
+use running::{Access, Next, Outcome, Tie};
 use tagged_index::Tagged;
 
 /// The node and the cell that are to be given back. The cell's slot is empty.
@@ -41,7 +41,7 @@ pub enum Give {
 
 /// What the next step of giving back does.
 #[inline(always)]
-pub(crate) fn give_access<T>(on: &Queue<T>, held: Held, at: &Give) -> Access
+pub(crate) fn give_access<T, D: Tie<T>>(on: &Queue<T, D>, held: Held, at: &Give) -> Access
     requires { AreHeld (room_of on.now) held }
     ensures { (a : Answer T) → IsAccess (machine_of on.now).core lists 2
         on.now.table.shared.table_id.words (give_line a held at.now) (held_slot held)
@@ -59,7 +59,11 @@ pub(crate) fn give_access<T>(on: &Queue<T>, held: Held, at: &Give) -> Access
 
 /// Where the operation continues after a step that came to this.
 #[inline(always)]
-pub(crate) fn give_next<T>(on: &Queue<T>, at: Give, outcome: Outcome) -> Next<Give, ()>
+pub(crate) fn give_next<T, D: Tie<T>>(
+    on: &Queue<T, D>,
+    at: Give,
+    outcome: Outcome,
+) -> Next<Give, ()>
     ensures { (a : Answer T) (held : Held) (has : List (ℕ × Slot T))
         → GaveTo on.now a held at outcome has result }
 {

@@ -8,7 +8,7 @@ use machine::seats::View;
 use queue_machine::Line;
 use queue_table::Operation;
 use queue_table::layout::{HEAD, next};
-use running::{Access, Code, Next, Op, Outcome, Replies};
+use running::{Access, Code, Next, Op, Outcome, Replies, Tie};
 use tagged_index::{NULL, Tagged};
 
 /// A look that was begun.
@@ -25,13 +25,14 @@ pub enum LookAt {
     CheckHead(Tagged, Tagged),
 }
 
-impl<T> Code<Queue<T>, T, Line<T>, Operation<T>, Queued, Answered<bool>, 2> for LookAt {
+impl<T, D: Tie<T>> Code<Queue<T, D>, T, Line<T>, Operation<T>, Queued<D>, Answered<bool>, 2>
+    for LookAt {
     ghost use Rattle.ms_queue.specs.code.Looking.{look_account};
 
     ghost account = { look_account };
 
     #[inline(always)]
-    fn access(&self, _on: &Queue<T>) -> Access {
+    fn access(&self, _on: &Queue<T, D>) -> Access {
         match self {
             LookAt::LoadHead => Access::Load(HEAD),
             LookAt::LoadNext(head) => Access::Load(next(head.index())),
@@ -42,7 +43,7 @@ impl<T> Code<Queue<T>, T, Line<T>, Operation<T>, Queued, Answered<bool>, 2> for 
     #[inline(always)]
     fn next(
         self,
-        _on: &Queue<T>,
+        _on: &Queue<T, D>,
         _seat: &mut Seat<Option<T>, View<T, Line<T>>>,
         outcome: Outcome,
     ) -> Next<LookAt, Answered<bool>> {
@@ -65,7 +66,8 @@ impl<T> Code<Queue<T>, T, Line<T>, Operation<T>, Queued, Answered<bool>, 2> for 
     }
 }
 
-impl<T> Replies<Queue<T>, T, Line<T>, Operation<T>, Queued, (), bool, 2> for LookAt {
+impl<T, D: Tie<T>> Replies<Queue<T, D>, T, Line<T>, Operation<T>, Queued<D>, (), bool, 2>
+    for LookAt {
     ghost use Rattle.std.specs.Prelude.{refl};
     ghost use Rattle.ms_queue.specs.code.KeepsAnswers.{look_given, look_promises};
 
@@ -73,7 +75,7 @@ impl<T> Replies<Queue<T>, T, Line<T>, Operation<T>, Queued, (), bool, 2> for Loo
 
     ghost idle = { λ key o answer. refl };
 
-    ghost given = { look_given };
+    ghost given = { look_given D.rule };
 
     ghost kept = { λ key o answer. tt };
 }

@@ -17,7 +17,7 @@ use machine::seats::View;
 use queue_machine::Line;
 use queue_table::Operation;
 use queue_table::layout::{CELL_LIST, NODE_LIST, TAIL, cell, next};
-use running::{Access, Code, Next, Op, Outcome, Replies, raised};
+use running::{Access, Code, Next, Op, Outcome, Replies, Tie, raised};
 use std::snapshot::Snapshot;
 use tagged_index::{NULL, Tagged};
 
@@ -73,7 +73,8 @@ fn null_word(tag: u64) -> u64
     }
 }
 
-impl<T> Code<Queue<T>, T, Line<T>, Operation<T>, Queued, Answered<Answer<T>>, 2> for PutAt<T> {
+impl<T, D: Tie<T>> Code<Queue<T, D>, T, Line<T>, Operation<T>, Queued<D>, Answered<Answer<T>>, 2>
+    for PutAt<T> {
     ghost use Rattle.ms_queue.specs.code.Putting.{put_account};
 
     ghost account = { put_account };
@@ -84,7 +85,7 @@ impl<T> Code<Queue<T>, T, Line<T>, Operation<T>, Queued, Answered<Answer<T>>, 2>
     }
 
     #[inline(always)]
-    fn access(&self, on: &Queue<T>) -> Access {
+    fn access(&self, on: &Queue<T, D>) -> Access {
         match self {
             PutAt::LoadCells(_) => Access::LoadTop(CELL_LIST),
             PutAt::LoadCellLink(_, cells) => Access::LoadLink(CELL_LIST, cells.index()),
@@ -112,7 +113,7 @@ impl<T> Code<Queue<T>, T, Line<T>, Operation<T>, Queued, Answered<Answer<T>>, 2>
     #[inline(always)]
     fn next(
         self,
-        on: &Queue<T>,
+        on: &Queue<T, D>,
         seat: &mut Seat<Option<T>, View<T, Line<T>>>,
         outcome: Outcome,
     ) -> Next<PutAt<T>, Answered<Answer<T>>> {
@@ -236,7 +237,8 @@ impl<T> Code<Queue<T>, T, Line<T>, Operation<T>, Queued, Answered<Answer<T>>, 2>
     }
 }
 
-impl<T> Replies<Queue<T>, T, Line<T>, Operation<T>, Queued, (), Answer<T>, 2> for PutAt<T> {
+impl<T, D: Tie<T>> Replies<Queue<T, D>, T, Line<T>, Operation<T>, Queued<D>, (), Answer<T>, 2>
+    for PutAt<T> {
     ghost use Rattle.std.specs.Prelude.{refl};
     ghost use Rattle.ms_queue.specs.code.KeepsAnswers.{put_given, put_promises};
 
@@ -244,7 +246,7 @@ impl<T> Replies<Queue<T>, T, Line<T>, Operation<T>, Queued, (), Answer<T>, 2> fo
 
     ghost idle = { λ key o answer. refl };
 
-    ghost given = { put_given };
+    ghost given = { put_given D.rule };
 
     ghost kept = { λ key o answer. tt };
 }

@@ -10,7 +10,7 @@ ghost use Rattle.ms_queue.specs.code.Steps.{SoughtTo};
 
 use crate::life::queue::Queue;
 use queue_table::layout::{TAIL, next};
-use running::{Access, Next, Outcome, raised};
+use running::{Access, Next, Outcome, Tie, raised};
 use tagged_index::{NULL, Tagged};
 
 /// The next step on the way to the end of the chain, with what was read.
@@ -37,7 +37,7 @@ pub enum End {
 
 /// What the next step to the end of the chain does.
 #[inline(always)]
-pub(crate) fn seek_access<T>(on: &Queue<T>, at: &Seek) -> Access
+pub(crate) fn seek_access<T, D: Tie<T>>(on: &Queue<T, D>, at: &Seek) -> Access
     requires { IsRead (room_of on.now) (limit_of on.now) at.now }
     ensures { (s : Seeking T) (slots : List (ℕ × Slot T))
         → IsAccess (machine_of on.now).core lists 2 on.now.table.shared.table_id.words
@@ -53,7 +53,7 @@ pub(crate) fn seek_access<T>(on: &Queue<T>, at: &Seek) -> Access
 
 /// Where the operation continues after a step that came to this.
 #[inline(always)]
-pub(crate) fn seek_on<T>(on: &Queue<T>, at: Seek, outcome: Outcome) -> Next<Seek, End>
+pub(crate) fn seek_on<T, D: Tie<T>>(on: &Queue<T, D>, at: Seek, outcome: Outcome) -> Next<Seek, End>
     requires { IsRead (room_of on.now) (limit_of on.now) at }
     ensures { (s : Seeking T) (had has : List (ℕ × Slot T))
         → SoughtTo on.now s at outcome had has result }

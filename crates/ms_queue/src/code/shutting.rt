@@ -8,7 +8,7 @@ use machine::seats::View;
 use queue_machine::Line;
 use queue_table::Operation;
 use queue_table::layout::HEAD;
-use running::{Access, Code, Next, Op, Outcome, Replies};
+use running::{Access, Code, Next, Op, Outcome, Replies, Tie};
 use tagged_index::Tagged;
 
 /// A shut that was begun.
@@ -23,13 +23,14 @@ pub enum ShutAt {
     Mark(Tagged),
 }
 
-impl<T> Code<Queue<T>, T, Line<T>, Operation<T>, Queued, Answered<bool>, 2> for ShutAt {
+impl<T, D: Tie<T>> Code<Queue<T, D>, T, Line<T>, Operation<T>, Queued<D>, Answered<bool>, 2>
+    for ShutAt {
     ghost use Rattle.ms_queue.specs.code.Shutting.{shut_account};
 
     ghost account = { shut_account };
 
     #[inline(always)]
-    fn access(&self, _on: &Queue<T>) -> Access {
+    fn access(&self, _on: &Queue<T, D>) -> Access {
         match self {
             ShutAt::LoadHead => Access::Load(HEAD),
             ShutAt::Mark(head) => Access::Swap(HEAD, *head, head.with_second()),
@@ -39,7 +40,7 @@ impl<T> Code<Queue<T>, T, Line<T>, Operation<T>, Queued, Answered<bool>, 2> for 
     #[inline(always)]
     fn next(
         self,
-        _on: &Queue<T>,
+        _on: &Queue<T, D>,
         _seat: &mut Seat<Option<T>, View<T, Line<T>>>,
         outcome: Outcome,
     ) -> Next<ShutAt, Answered<bool>> {
@@ -68,7 +69,8 @@ impl<T> Code<Queue<T>, T, Line<T>, Operation<T>, Queued, Answered<bool>, 2> for 
     }
 }
 
-impl<T> Replies<Queue<T>, T, Line<T>, Operation<T>, Queued, (), bool, 2> for ShutAt {
+impl<T, D: Tie<T>> Replies<Queue<T, D>, T, Line<T>, Operation<T>, Queued<D>, (), bool, 2>
+    for ShutAt {
     ghost use Rattle.std.specs.Prelude.{refl};
     ghost use Rattle.ms_queue.specs.code.KeepsAnswers.{shut_given, shut_promises};
 
@@ -76,7 +78,7 @@ impl<T> Replies<Queue<T>, T, Line<T>, Operation<T>, Queued, (), bool, 2> for Shu
 
     ghost idle = { λ key o answer. refl };
 
-    ghost given = { shut_given };
+    ghost given = { shut_given D.rule };
 
     ghost kept = { λ key o answer. tt };
 }

@@ -11,7 +11,7 @@ use machine::seats::View;
 use queue_machine::Line;
 use queue_table::Operation;
 use queue_table::layout::{HEAD, TAIL, cell, next};
-use running::{Access, Code, Next, Op, Outcome, Replies, raised};
+use running::{Access, Code, Next, Op, Outcome, Replies, Tie, raised};
 use tagged_index::{NULL, Tagged};
 
 /// A take that was begun.
@@ -50,7 +50,8 @@ pub struct Taken<T> {
 /// What a take answers.
 pub(crate) type Answer<T> = Result<(T, u64), TakeRefused>;
 
-impl<T> Code<Queue<T>, T, Line<T>, Operation<T>, Queued, Answered<Answer<T>>, 2> for TakeAt<T> {
+impl<T, D: Tie<T>> Code<Queue<T, D>, T, Line<T>, Operation<T>, Queued<D>, Answered<Answer<T>>, 2>
+    for TakeAt<T> {
     ghost use Rattle.ms_queue.specs.code.Taking.{take_account};
 
     ghost account = { take_account };
@@ -61,7 +62,7 @@ impl<T> Code<Queue<T>, T, Line<T>, Operation<T>, Queued, Answered<Answer<T>>, 2>
     }
 
     #[inline(always)]
-    fn access(&self, on: &Queue<T>) -> Access {
+    fn access(&self, on: &Queue<T, D>) -> Access {
         match self {
             TakeAt::LoadHead => Access::Load(HEAD),
             TakeAt::LoadTail(_) => Access::Load(TAIL),
@@ -79,7 +80,7 @@ impl<T> Code<Queue<T>, T, Line<T>, Operation<T>, Queued, Answered<Answer<T>>, 2>
     #[inline(always)]
     fn next(
         self,
-        on: &Queue<T>,
+        on: &Queue<T, D>,
         seat: &mut Seat<Option<T>, View<T, Line<T>>>,
         outcome: Outcome,
     ) -> Next<TakeAt<T>, Answered<Answer<T>>> {
@@ -164,7 +165,8 @@ impl<T> Code<Queue<T>, T, Line<T>, Operation<T>, Queued, Answered<Answer<T>>, 2>
     }
 }
 
-impl<T> Replies<Queue<T>, T, Line<T>, Operation<T>, Queued, (), Answer<T>, 2> for TakeAt<T> {
+impl<T, D: Tie<T>> Replies<Queue<T, D>, T, Line<T>, Operation<T>, Queued<D>, (), Answer<T>, 2>
+    for TakeAt<T> {
     ghost use Rattle.std.specs.Prelude.{refl};
     ghost use Rattle.ms_queue.specs.code.KeepsAnswers.{take_given, take_promises};
 
@@ -172,7 +174,7 @@ impl<T> Replies<Queue<T>, T, Line<T>, Operation<T>, Queued, (), Answer<T>, 2> fo
 
     ghost idle = { λ key o answer. refl };
 
-    ghost given = { take_given };
+    ghost given = { take_given D.rule };
 
     ghost kept = { λ key o answer. tt };
 }

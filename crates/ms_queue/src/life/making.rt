@@ -5,12 +5,13 @@ ghost use Rattle.tagged_index.specs.declared.word.TheConstants.{NULL};
 ghost use Rattle.bounded_model.specs.Laws.{fresh};
 ghost use Rattle.queue_machine.specs.Answers.{shape};
 ghost use Rattle.queue_table.specs.Layout.{words_for, start_at};
-ghost use Rattle.ms_queue.specs.Calls.{IsRootOf, root_in, shape_of};
+ghost use Rattle.ms_queue.specs.Calls.{IsRootOf, IsRootWith, root_in, shape_of};
 
 use crate::life::queue::{Queue, Root};
 use atomic_table::Table;
 use bounded_model::MakeRefused;
 use queue_table::layout;
+use running::{Free, Tie};
 use std::alloc::{AllocError, Global};
 use tagged_index::Limits;
 
@@ -35,6 +36,17 @@ impl<T> Queue<T> {
     pub fn new(alloc: Global, limits: Limits) -> Result<(Queue<T>, Root<T>), MakeRefused>
         ensures { IfOk result (λ t. (t.0.table.shared.key ≡ limits)
             × IsRootOf t.0 t.1 × (root_in t.1 ≡ fresh)
+            × (shape_of t.0 ≡ shape (capacity_of limits) (tag_limit_of limits))) }
+    {
+        Queue::<T, Free>::new_tied(alloc, limits)
+    }
+}
+
+impl<T, D: Tie<T>> Queue<T, D> {
+    /// Like `new`, for a queue whose history keeps the rule `D`.
+    pub fn new_tied(alloc: Global, limits: Limits) -> Result<(Queue<T, D>, Root<T>), MakeRefused>
+        ensures { IfOk result (λ t. (t.0.table.shared.key ≡ limits)
+            × IsRootWith D.rule t.0 t.1 × (root_in t.1 ≡ fresh)
             × (shape_of t.0 ≡ shape (capacity_of limits) (tag_limit_of limits))) }
     {
         let words = first_words(alloc, limits.capacity())?;

@@ -9,16 +9,17 @@ use machine::View;
 use queue_machine::Line;
 use queue_table::Operation;
 use queue_table::layout::CELLS;
-use running::{HasTable, Keeping, OnTable, Running};
+use running::{Free, HasTable, Keeping, OnTable, Running, Tie};
 use std::alloc::Global;
 use tagged_index::Limits;
 
 /// A bounded queue, first in, first out, that many threads share by `&`, each with a pass of its
-/// own. Its table has two lists: the free cells and the free nodes.
+/// own. Its table has two lists: the free cells and the free nodes. Its history keeps the rule `D`,
+/// which a client may give it.
 #[derive(Drop)]
-pub struct Queue<T> {
+pub struct Queue<T, D: Tie<T> = Free> {
     /// The words and values. Only calls change them.
-    pub table: Table<Option<T>, View<T, Line<T>>, Limits, Running<Operation<T>, Queued>, Global>,
+    pub table: Table<Option<T>, View<T, Line<T>>, Limits, Running<Operation<T>, Queued<D>>, Global>,
     /// What it was made with: the key of its table.
     pub limits: Limits,
     pub ghost keyed: { table.shared.key ≡ limits },
@@ -40,7 +41,7 @@ pub type Note<T> = running::Note<T, Line<T>>;
 /// What an operation has answered. A queue's pass keeps nothing between its calls.
 pub type Answered<R> = running::Answered<(), R>;
 
-impl<T> OnTable for Queue<T> {
+impl<T, D: Tie<T>> OnTable for Queue<T, D> {
     ghost key = { λ c. c.table.shared.key };
 
     ghost id = { λ c. c.table.shared.table_id };
@@ -52,14 +53,16 @@ impl<T> OnTable for Queue<T> {
     }
 }
 
-impl<T> HasTable<T, Line<T>, Operation<T>, Queued> for Queue<T> {
+impl<T, D: Tie<T>> HasTable<T, Line<T>, Operation<T>, Queued<D>> for Queue<T, D> {
     #[inline(always)]
-    fn table(&self) -> &Shared<Option<T>, View<T, Line<T>>, Limits, Running<Operation<T>, Queued>> {
+    fn table(
+        &self,
+    ) -> &Shared<Option<T>, View<T, Line<T>>, Limits, Running<Operation<T>, Queued<D>>> {
         &self.table.shared
     }
 }
 
-impl<T> Keeping<Line<T>, ()> for Queue<T> {
+impl<T, D: Tie<T>> Keeping<Line<T>, ()> for Queue<T, D> {
     ghost use Rattle.ms_queue.specs.Calls.{keeps};
 
     ghost keeps = { keeps };

@@ -1,19 +1,24 @@
 -- The machine of a ring with these limits, which of its operations makes a call, and what an operation has answered.
-use Rattle.std.specs.Prelude.{ℕ, ◌/◌, ◌≡◌}
+use Rattle.std.specs.Prelude.{ℕ, ◌/◌, ◌≡◌, List}
 use Rattle.tagged_index.specs.Limits.{tag_limit_of}
 use Rattle.running.specs.Machine.{Machine}
+pub use Rattle.running.specs.Ties.{no_rule}
 use Rattle.ring_table.specs.declared.operation.Operation.TheVariants.{Put as PutFirst}
 use Rattle.running.specs.declared.kept.Answered as answers
-use Rattle.ring_queue.specs.Prelude.{Close, CloseFirst, Command, Limits, Look, LookFirst, Operation, Put, SeatLine, Shape, Shut, ShutFirst, Take}
-use Rattle.ring_queue.specs.Prelude.{TakeFirst, capacity_of, names, passes_of, ring_on}
+use Rattle.ring_queue.specs.Prelude.{Close, CloseFirst, Command, Event, Limits, Look, LookFirst, Operation, Put, SeatLine, Shape, Shut, ShutFirst, Take}
+use Rattle.ring_queue.specs.Prelude.{TakeFirst, capacity_of, names, passes_of, ring_with}
 use Rattle.ring_queue.specs.declared.life.spare.Spare.{Spare}
 
 -- each lap raises a slot's tag by two, so the last tag of an odd limit is of no use
 abbrev pub laps_at : Limits → ℕ
 laps_at k = tag_limit_of k / 2
 
+-- for a client with this rule, and for one with none
+abbrev pub machine_for : {T : Type 0} → (List (Event T) → Type 0) → Limits → Machine T (SeatLine T) (Operation T) names
+machine_for {T} rule k = ring_with T (capacity_of k) (laps_at k) (passes_of k) rule
+
 abbrev pub machine_at : {T : Type 0} → Limits → Machine T (SeatLine T) (Operation T) names
-machine_at {T} k = ring_on T (capacity_of k) (laps_at k) (passes_of k)
+machine_at k = machine_for no_rule k
 
 abbrev pub shape_at : Type 0 → Limits → Shape
 shape_at T k = (machine_at {T = T} k).core.shape

@@ -7,9 +7,10 @@ ghost use Rattle.bounded_model.specs.declared.commands.Command.TheVariants.{Clos
 ghost use Rattle.bounded_model.specs.declared.views.Answered.TheVariants.{Close as CloseAnswered, Shut as ShutAnswered};
 ghost use Rattle.running.specs.Kept.{HasNewCall, WasRun};
 ghost use Rattle.running.specs.Ops.{underway_of};
+ghost use Rattle.running.specs.Ties.{CloseDeals, ShutDeals};
 ghost use Rattle.running.specs.declared.code.Next.TheVariants.{On};
 ghost use Rattle.ring_queue.specs.code.Machine.{is_call};
-ghost use Rattle.ring_queue.specs.Calls.{IsClosing, IsShutting, IsPassOf, machine_of, pass_in, shape_of};
+ghost use Rattle.ring_queue.specs.Calls.{IsClosing, IsShutting, IsPassOf, IsPassWith, machine_of, machine_with, pass_in, shape_of};
 ghost use Rattle.ring_queue.specs.code.Steps.{MarkRan};
 ghost use Rattle.ring_queue.specs.code.Closing.{mark_account};
 
@@ -17,7 +18,7 @@ use crate::code::closing::{CloseOp, Mark, MarkAt, ShutOp};
 use crate::code::walking::WalkAt;
 use crate::life::ring::{Pass, RingQueue};
 use ring_table::Operation;
-use running::{Next, Op, whole};
+use running::{Next, Op, Tie, whole};
 use std::sync::Wait;
 
 impl<T> RingQueue<T> {
@@ -48,12 +49,7 @@ impl<T> RingQueue<T> {
             (is_call CloseCall) (pass_in by) result.0 result.1 }
         ensures new { HasNewCall by result.0 }
     {
-        let Op {
-            pass,
-            operation,
-            at,
-        } = self.begin_close(by);
-        whole(rt, self, (pass, Next::On(at)), operation)
+        self.close_as(rt, by)
     }
 
     /// Begins a shut, and makes no step yet. If the operation is dropped, its pass goes with it, and
@@ -83,11 +79,56 @@ impl<T> RingQueue<T> {
             (is_call ShutCall) (pass_in by) result.0 result.1 }
         ensures new { HasNewCall by result.0 }
     {
+        self.shut_as(rt, by)
+    }
+}
+
+impl<T, D: Tie<T>> RingQueue<T, D> {
+    /// Closes the ring as `close` does, if it has a rule of its client, as `put_as` puts a value.
+    #[inline]
+    pub fn close_as<R: Wait>(&self, rt: &R, by: Pass<T>) -> (Pass<T>, bool)
+        requires pass { IsPassWith D.rule self.now by }
+        requires deal { CloseDeals (shape_of self.now) D.rule (pass_in by) }
+        ensures of { IsPassWith D.rule self.now result.0 }
+        ensures tied { D.rule (pass_in result.0).seen }
+        ensures gives { CloseGives (shape_of self.now) (pass_in by) (pass_in result.0) result.1 }
+        ensures answered { Answers (pass_in by) (pass_in result.0) (CloseAnswered result.1) }
+        ensures ran { WasRun (machine_with D.rule self.now)
+            (mark_account self.now.table.shared.key)
+            (is_call CloseCall) (pass_in by) result.0 result.1 }
+        ensures new { HasNewCall by result.0 }
+    {
+        let Pass { pass, kept } = by;
+        let first = MarkAt::Walking(Mark::Closed, WalkAt::LoadHint(kept));
         let Op {
             pass,
             operation,
             at,
-        } = self.begin_shut(by);
+        } = Op::begin(self, pass, Operation::Close, first);
+        whole(rt, self, (pass, Next::On(at)), operation)
+    }
+
+    /// Shuts the ring as `shut` does, if it has a rule of its client, as `put_as` puts a value.
+    #[inline]
+    pub fn shut_as<R: Wait>(&self, rt: &R, by: Pass<T>) -> (Pass<T>, bool)
+        requires pass { IsPassWith D.rule self.now by }
+        requires deal { ShutDeals (shape_of self.now) D.rule (pass_in by) }
+        ensures of { IsPassWith D.rule self.now result.0 }
+        ensures tied { D.rule (pass_in result.0).seen }
+        ensures gives { ShutGives (shape_of self.now) (pass_in by) (pass_in result.0) result.1 }
+        ensures answered { Answers (pass_in by) (pass_in result.0) (ShutAnswered result.1) }
+        ensures ran { WasRun (machine_with D.rule self.now)
+            (mark_account self.now.table.shared.key)
+            (is_call ShutCall) (pass_in by) result.0 result.1 }
+        ensures new { HasNewCall by result.0 }
+    {
+        let Pass { pass, kept } = by;
+        let first = MarkAt::Walking(Mark::Shut, WalkAt::LoadHint(kept));
+        let Op {
+            pass,
+            operation,
+            at,
+        } = Op::begin(self, pass, Operation::Shut, first);
         whole(rt, self, (pass, Next::On(at)), operation)
     }
 }

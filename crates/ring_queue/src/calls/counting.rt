@@ -7,34 +7,16 @@ ghost use Rattle.ring_machine.specs.declared.lines.Answer.TheVariants.{Len as An
 ghost use Rattle.ring_table.specs.declared.operation.Operation.TheVariants.{Len as LenFirst};
 ghost use Rattle.running.specs.Ops.{underway_of};
 ghost use Rattle.running.specs.Kept.{HasNewCall};
-ghost use Rattle.ring_queue.specs.Calls.{IsCounting, WasRun, IsPassOf, machine_of, pass_in, shape_of};
+ghost use Rattle.ring_queue.specs.Calls.{IsCounting, WasRunWith, IsPassOf, machine_of, pass_in, shape_of, IsPassWith};
 
 use crate::code::counting::{LenAt, LenOp};
 use crate::code::walking::WalkAt;
 use crate::life::ring::{Pass, RingQueue};
 use ring_table::Operation;
-use running::{Op, first_step, whole};
+use running::{Op, Tie, first_step, whole};
 use std::sync::Wait;
 
 impl<T> RingQueue<T> {
-    /// How many values the ring held at some time since its pass's last step before the call, from
-    /// 0 to the capacity. It retries while values are taken. The call was a run of the machine's steps.
-    pub fn len<R: Wait>(&self, rt: &R, by: Pass<T>) -> (Pass<T>, u32)
-        requires { IsPassOf self.now by }
-        ensures of { IsPassOf self.now result.0 }
-        ensures gives { LenGives (shape_of self.now) (pass_in by) (pass_in result.0) result.1 }
-        ensures answered { Answers (pass_in by) (pass_in result.0) (LenAnswered result.1) }
-        ensures ran { WasRun self.now LenFirst (pass_in by) result.0 (AnswerLen result.1) }
-        ensures new { HasNewCall by result.0 }
-    {
-        let Pass { pass, kept } = by;
-        let len = Operation::Len;
-        let begun = LenAt::ToFront(WalkAt::LoadHint(kept));
-        let first = first_step(&self.table.shared, self, pass, begun, &len);
-        let (pass, count) = whole(rt, self, first, len);
-        (pass, count as u32)
-    }
-
     /// Begins a count, and makes no step yet. If the operation is dropped, its pass goes with it, and
     /// its cell stays reserved.
     #[inline]
@@ -46,5 +28,25 @@ impl<T> RingQueue<T> {
         let Pass { pass, kept: spare } = by;
         let begun = LenAt::ToFront(WalkAt::LoadHint(spare));
         Op::begin(self, pass, Operation::Len, begun)
+    }
+}
+
+impl<T, D: Tie<T>> RingQueue<T, D> {
+    /// How many values the ring held at some time since its pass's last step before the call, from
+    /// 0 to the capacity. It retries while values are taken. The call was a run of the machine's steps.
+    pub fn len<R: Wait>(&self, rt: &R, by: Pass<T>) -> (Pass<T>, u32)
+        requires { IsPassWith D.rule self.now by }
+        ensures of { IsPassWith D.rule self.now result.0 }
+        ensures gives { LenGives (shape_of self.now) (pass_in by) (pass_in result.0) result.1 }
+        ensures answered { Answers (pass_in by) (pass_in result.0) (LenAnswered result.1) }
+        ensures ran { WasRunWith D.rule self.now LenFirst (pass_in by) result.0 (AnswerLen result.1) }
+        ensures new { HasNewCall by result.0 }
+    {
+        let Pass { pass, kept } = by;
+        let len = Operation::Len;
+        let begun = LenAt::ToFront(WalkAt::LoadHint(kept));
+        let first = first_step(&self.table.shared, self, pass, begun, &len);
+        let (pass, count) = whole(rt, self, first, len);
+        (pass, count as u32)
     }
 }

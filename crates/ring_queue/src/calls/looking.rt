@@ -9,7 +9,7 @@ ghost use Rattle.running.specs.Ops.{underway_of};
 ghost use Rattle.running.specs.Passes.{pass_in as pass_now};
 ghost use Rattle.ring_table.specs.declared.operation.Operation.TheVariants.{Look as LookFirst};
 ghost use Rattle.ring_queue.specs.code.Machine.{is_call};
-ghost use Rattle.ring_queue.specs.Calls.{IsLooking, IsPassOf, machine_of, pass_in, shape_of, LookTried};
+ghost use Rattle.ring_queue.specs.Calls.{IsLooking, IsPassOf, machine_of, pass_in, shape_of, LookTried, IsPassWith, machine_with};
 ghost use Rattle.ring_queue.specs.code.Looking.{look_account, slot_loaded};
 ghost use Rattle.ring_queue.specs.code.Steps.{LookStands, LookRan};
 
@@ -19,19 +19,19 @@ use crate::code::walking::{FAST_ROUNDS, WalkAt};
 use crate::life::ring::{Answered, Pass, RingQueue};
 use bounded_model::Stepped;
 use ring_table::{Operation, SeatLine};
-use running::{Next, Op, any, aside, fast_step, first_step, leave, whole};
+use running::{Next, Op, Tie, any, aside, fast_step, first_step, leave, whole};
 use std::sync::Wait;
 
 /// A look's steps on its fast path, as long as the hint is near enough.
 #[inline(always)]
-pub(crate) fn look_fast<T>(
-    on: &RingQueue<T>,
+pub(crate) fn look_fast<T, D: Tie<T>>(
+    on: &RingQueue<T, D>,
     by: Pass<T>,
     look: &Operation<T>,
 ) -> (running::Pass<T, SeatLine<T>>, Next<LookAt, Answered<bool>>)
     requires named { look.now ≡ LookFirst }
-    requires pass { IsPassOf on.now by }
-    ensures ran { LookRan on.now look.now by.pass result.0 result.1 }
+    requires pass { IsPassWith D.rule on.now by }
+    ensures ran { LookRan D.rule on.now look.now by.pass result.0 result.1 }
     ensures took { (pass_now result.0).steps ≤ (pass_now by.pass).steps + 9 }
 {
     let Pass { pass, kept: spare } = by;
@@ -48,15 +48,15 @@ pub(crate) fn look_fast<T>(
 
 // The walk.
 #[inline(always)]
-fn look_fast_walk<T>(
-    on: &RingQueue<T>,
+fn look_fast_walk<T, D: Tie<T>>(
+    on: &RingQueue<T, D>,
     by: running::Pass<T, SeatLine<T>>,
     begun: Walk,
     look: &Operation<T>,
 ) -> (running::Pass<T, SeatLine<T>>, Next<LookAt, Answered<bool>>)
     requires named { look.now ≡ LookFirst }
-    requires stands { LookStands on.now by (slot_loaded begun) }
-    ensures ran { LookRan on.now look.now by result.0 result.1 }
+    requires stands { LookStands D.rule on.now by (slot_loaded begun) }
+    ensures ran { LookRan D.rule on.now look.now by result.0 result.1 }
     ensures took { (pass_now result.0).steps ≤ (pass_now by).steps + 8 }
 {
     let mut pass = by;
@@ -96,23 +96,6 @@ impl<T> RingQueue<T> {
         Op::begin(self, pass, Operation::Look, begun)
     }
 
-    /// Whether the ring held no value at some time since its pass's last step before the call, also
-    /// if it is closed or shut. The call was a run of the machine's steps.
-    #[inline]
-    pub fn look<R: Wait>(&self, rt: &R, by: Pass<T>) -> (Pass<T>, bool)
-        requires { IsPassOf self.now by }
-        ensures of { IsPassOf self.now result.0 }
-        ensures gives { LookGives (shape_of self.now) (pass_in by) (pass_in result.0) result.1 }
-        ensures answered { Answers (pass_in by) (pass_in result.0) (LookAnswered result.1) }
-        ensures ran { WasRun (machine_of self.now) (look_account self.now.table.shared.key)
-            (is_call LookCall) (pass_in by) result.0 result.1 }
-        ensures new { HasNewCall by result.0 }
-    {
-        let look = Operation::Look;
-        let first = look_fast(self, by, &look);
-        whole(rt, self, first, look)
-    }
-
     /// Looks on the fast path alone, as `put_at_once` puts. The call makes at most 9 steps. The
     /// answers are those of `look`.
     #[inline(always)]
@@ -125,5 +108,24 @@ impl<T> RingQueue<T> {
         let look = Operation::Look;
         let first = look_fast(self, by, &look);
         leave(self, first, look)
+    }
+}
+
+impl<T, D: Tie<T>> RingQueue<T, D> {
+    /// Whether the ring held no value at some time since its pass's last step before the call, also
+    /// if it is closed or shut. The call was a run of the machine's steps.
+    #[inline]
+    pub fn look<R: Wait>(&self, rt: &R, by: Pass<T>) -> (Pass<T>, bool)
+        requires { IsPassWith D.rule self.now by }
+        ensures of { IsPassWith D.rule self.now result.0 }
+        ensures gives { LookGives (shape_of self.now) (pass_in by) (pass_in result.0) result.1 }
+        ensures answered { Answers (pass_in by) (pass_in result.0) (LookAnswered result.1) }
+        ensures ran { WasRun (machine_with D.rule self.now) (look_account self.now.table.shared.key)
+            (is_call LookCall) (pass_in by) result.0 result.1 }
+        ensures new { HasNewCall by result.0 }
+    {
+        let look = Operation::Look;
+        let first = look_fast(self, by, &look);
+        whole(rt, self, first, look)
     }
 }

@@ -27,10 +27,11 @@ ghost use Rattle.bounded_model.specs.declared.commands.Command.TheVariants.{Put 
 ghost use Rattle.running.specs.Kept.{HasNewCall, WasRun};
 ghost use Rattle.running.specs.Ops.{underway_of};
 ghost use Rattle.running.specs.Passes.{pass_in as pass_now};
+ghost use Rattle.running.specs.Ties.{PutDeals};
 ghost use Rattle.ring_machine.specs.declared.lines.Call.TheVariants.{Put as CallPut};
 ghost use Rattle.ring_table.specs.Lines.{call_of};
 ghost use Rattle.ring_queue.specs.code.Machine.{is_call, put_of};
-ghost use Rattle.ring_queue.specs.Calls.{IsPutting, FullTells, FullTried, SpentTells, SpentTried, IsPassOf, machine_of, pass_in, shape_of, PutTried};
+ghost use Rattle.ring_queue.specs.Calls.{IsPutting, FullTells, FullTried, SpentTells, SpentTried, IsPassOf, IsPassWith, machine_of, machine_with, pass_in, shape_of, PutTried};
 ghost use Rattle.ring_queue.specs.code.Putting.{put_account};
 ghost use Rattle.ring_queue.specs.code.Steps.{PutStands, PutRan};
 ghost use Rattle.ring_queue.specs.declared.code.putting.PutAt.TheVariants.{Walking};
@@ -42,14 +43,14 @@ use crate::code::walking::{FAST_ROUNDS, WalkAt};
 use crate::life::ring::{Answered, Pass, RingQueue};
 use bounded_model::{PutRefused, Stepped};
 use ring_table::{Operation, SeatLine};
-use running::{Next, Op, any, aside, fast_step, first_step, leave, told, whole};
+use running::{Next, Op, Tie, any, aside, fast_step, first_step, leave, told, whole};
 use std::snapshot::Snapshot;
 use std::sync::Wait;
 
 /// A put's steps on its fast path, until another pass is faster.
 #[inline(always)]
-pub(crate) fn put_fast<T>(
-    on: &RingQueue<T>,
+pub(crate) fn put_fast<T, D: Tie<T>>(
+    on: &RingQueue<T, D>,
     by: Pass<T>,
     value: T,
     put: &Operation<T>,
@@ -58,8 +59,9 @@ pub(crate) fn put_fast<T>(
     Next<PutAt<T>, Answered<Answer<T>>>,
 )
     requires named { put.now ≡ put_of value }
-    requires pass { IsPassOf on.now by }
-    ensures ran { PutRan on.now put.now by.pass result.0 result.1 }
+    requires pass { IsPassWith D.rule on.now by }
+    requires deal { PutDeals (shape_of on.now) D.rule (pass_in by) value }
+    ensures ran { PutRan D.rule on.now put.now by.pass result.0 result.1 }
     ensures took { (pass_now result.0).steps ≤ (pass_now by.pass).steps + 11 }
 {
     let Pass { pass, kept: spare } = by;
@@ -83,8 +85,8 @@ pub(crate) fn put_fast<T>(
 // At the back: the exchange, which puts the value, or the way home of the spare cell, if the
 // value is refused.
 #[inline]
-fn put_fast_end<T>(
-    on: &RingQueue<T>,
+fn put_fast_end<T, D: Tie<T>>(
+    on: &RingQueue<T, D>,
     by: running::Pass<T, SeatLine<T>>,
     there: PutAt<T>,
     put: &Operation<T>,
@@ -92,8 +94,8 @@ fn put_fast_end<T>(
     running::Pass<T, SeatLine<T>>,
     Next<PutAt<T>, Answered<Answer<T>>>,
 )
-    requires stands { PutStands on.now put.now by there }
-    ensures ran { PutRan on.now put.now by result.0 result.1 }
+    requires stands { PutStands D.rule on.now put.now by there }
+    ensures ran { PutRan D.rule on.now put.now by result.0 result.1 }
     ensures took { (pass_now result.0).steps ≤ (pass_now by).steps + 1 }
 {
     let table = &on.table.shared;
@@ -109,8 +111,8 @@ fn put_fast_end<T>(
 
 // One put in four moves the tail as well.
 #[inline]
-fn put_fast_pass<T>(
-    on: &RingQueue<T>,
+fn put_fast_pass<T, D: Tie<T>>(
+    on: &RingQueue<T, D>,
     by: running::Pass<T, SeatLine<T>>,
     put_there: PutAt<T>,
     put: &Operation<T>,
@@ -118,8 +120,8 @@ fn put_fast_pass<T>(
     running::Pass<T, SeatLine<T>>,
     Next<PutAt<T>, Answered<Answer<T>>>,
 )
-    requires stands { PutStands on.now put.now by put_there }
-    ensures ran { PutRan on.now put.now by result.0 result.1 }
+    requires stands { PutStands D.rule on.now put.now by put_there }
+    ensures ran { PutRan D.rule on.now put.now by result.0 result.1 }
     ensures took { (pass_now result.0).steps ≤ (pass_now by).steps + 1 }
 {
     let PutAt::PassTail(shown, walk) = put_there else {
@@ -131,8 +133,8 @@ fn put_fast_pass<T>(
 
 // The walk, as long as the hint is near enough.
 #[inline]
-fn put_fast_walk<T>(
-    on: &RingQueue<T>,
+fn put_fast_walk<T, D: Tie<T>>(
+    on: &RingQueue<T, D>,
     by: running::Pass<T, SeatLine<T>>,
     value: Snapshot<T>,
     begun: Walk,
@@ -141,8 +143,8 @@ fn put_fast_walk<T>(
     running::Pass<T, SeatLine<T>>,
     Next<PutAt<T>, Answered<Answer<T>>>,
 )
-    requires stands { PutStands on.now put.now by (Walking value (LoadSlot begun)) }
-    ensures ran { PutRan on.now put.now by result.0 result.1 }
+    requires stands { PutStands D.rule on.now put.now by (Walking value (LoadSlot begun)) }
+    ensures ran { PutRan D.rule on.now put.now by result.0 result.1 }
     ensures took { (pass_now result.0).steps ≤ (pass_now by).steps + 8 }
 {
     let mut pass = by;
@@ -219,12 +221,7 @@ impl<T> RingQueue<T> {
             (is_call (PutCall value)) (pass_in by) result.0 result.1 }
         ensures new { HasNewCall by result.0 }
     {
-        let put = put_operation(&value);
-        // Looked at here, before a call copies it, so that the answer need not go through memory.
-        match put_fast(self, by, value, &put) {
-            (pass, Next::Done(answer)) => told(pass, answer),
-            under_way => whole(rt, self, under_way, put),
-        }
+        self.put_as(rt, by, value)
     }
 
     /// Puts a value on the fast path alone. If this does not end the put, it comes back under way. The
@@ -249,6 +246,40 @@ impl<T> RingQueue<T> {
                 Stepped::Done(back, reply)
             }
             under_way => leave(self, under_way, put),
+        }
+    }
+}
+
+impl<T, D: Tie<T>> RingQueue<T, D> {
+    /// Puts a value as `put` does, in a ring with a rule of its client. The caller shows that the put
+    /// keeps the rule, whichever history it finds at its effect. What its pass has then seen keeps
+    /// the rule, whatever the answer is.
+    #[inline(always)]
+    pub fn put_as<R: Wait>(
+        &self,
+        rt: &R,
+        by: Pass<T>,
+        value: T,
+    ) -> (Pass<T>, Result<u64, PutRefused<T>>)
+        requires pass { IsPassWith D.rule self.now by }
+        requires deal { PutDeals (shape_of self.now) D.rule (pass_in by) value }
+        ensures of { IsPassWith D.rule self.now result.0 }
+        ensures tied { D.rule (pass_in result.0).seen }
+        ensures gives { PutGives (shape_of self.now) (pass_in by) value (pass_in result.0)
+            result.1 }
+        ensures full { FullTells self.now (pass_in by) (pass_in result.0) result.1 }
+        ensures spent { SpentTells self.now (pass_in by) (pass_in result.0) result.1 }
+        ensures answered { Answers (pass_in by) (pass_in result.0) (put_answered result.1) }
+        ensures ran { WasRun (machine_with D.rule self.now)
+            (put_account self.now.table.shared.key)
+            (is_call (PutCall value)) (pass_in by) result.0 result.1 }
+        ensures new { HasNewCall by result.0 }
+    {
+        let put = put_operation(&value);
+        // Looked at here, before a call copies it, so that the answer need not go through memory.
+        match put_fast(self, by, value, &put) {
+            (pass, Next::Done(answer)) => told(pass, answer),
+            under_way => whole(rt, self, under_way, put),
         }
     }
 }

@@ -24,9 +24,10 @@ ghost use Rattle.bounded_model.specs.declared.views.Answered.TheVariants.{Take a
 ghost use Rattle.running.specs.Kept.{HasNewCall, WasRun};
 ghost use Rattle.running.specs.Ops.{underway_of};
 ghost use Rattle.running.specs.Passes.{pass_in as pass_now};
+ghost use Rattle.running.specs.Ties.{TakeDeals};
 ghost use Rattle.ring_table.specs.declared.operation.Operation.TheVariants.{Take as TakeFirst};
 ghost use Rattle.ring_queue.specs.code.Machine.{is_call};
-ghost use Rattle.ring_queue.specs.Calls.{IsPassOf, machine_of, pass_in, shape_of, IsTaking, TakeTried};
+ghost use Rattle.ring_queue.specs.Calls.{IsPassOf, IsPassWith, machine_of, machine_with, pass_in, shape_of, IsTaking, TakeTried};
 ghost use Rattle.ring_queue.specs.code.Taking.{take_account};
 ghost use Rattle.ring_queue.specs.code.Steps.{TakeStands, TakeRan};
 ghost use Rattle.ring_queue.specs.declared.code.taking.TakeAt.TheVariants.{Walking};
@@ -38,13 +39,13 @@ use crate::code::walking::{FAST_ROUNDS, WalkAt};
 use crate::life::ring::{Answered, Pass, RingQueue};
 use bounded_model::{Stepped, TakeRefused};
 use ring_table::{Operation, SeatLine};
-use running::{Next, Op, any, aside, fast_step, first_step, leave, told, whole};
+use running::{Next, Op, Tie, any, aside, fast_step, first_step, leave, told, whole};
 use std::sync::Wait;
 
 /// A take's steps on its fast path, until another pass is faster.
 #[inline(always)]
-pub(crate) fn take_fast<T>(
-    on: &RingQueue<T>,
+pub(crate) fn take_fast<T, D: Tie<T>>(
+    on: &RingQueue<T, D>,
     by: Pass<T>,
     take: &Operation<T>,
 ) -> (
@@ -52,8 +53,9 @@ pub(crate) fn take_fast<T>(
     Next<TakeAt<T>, Answered<Answer<T>>>,
 )
     requires named { take.now ≡ TakeFirst }
-    requires pass { IsPassOf on.now by }
-    ensures ran { TakeRan on.now take.now by.pass result.0 result.1 }
+    requires pass { IsPassWith D.rule on.now by }
+    requires deal { TakeDeals (shape_of on.now) D.rule (pass_in by) }
+    ensures ran { TakeRan D.rule on.now take.now by.pass result.0 result.1 }
     ensures took { (pass_now result.0).steps ≤ (pass_now by.pass).steps + 12 }
 {
     let Pass { pass, kept: spare } = by;
@@ -78,8 +80,8 @@ pub(crate) fn take_fast<T>(
 
 // The walk, as long as the hint is near enough.
 #[inline]
-fn take_fast_walk<T>(
-    on: &RingQueue<T>,
+fn take_fast_walk<T, D: Tie<T>>(
+    on: &RingQueue<T, D>,
     by: running::Pass<T, SeatLine<T>>,
     begun: Walk,
     take: &Operation<T>,
@@ -88,8 +90,8 @@ fn take_fast_walk<T>(
     Next<TakeAt<T>, Answered<Answer<T>>>,
 )
     requires named { take.now ≡ TakeFirst }
-    requires stands { TakeStands on.now by (Walking (LoadSlot begun)) }
-    ensures ran { TakeRan on.now take.now by result.0 result.1 }
+    requires stands { TakeStands D.rule on.now by (Walking (LoadSlot begun)) }
+    ensures ran { TakeRan D.rule on.now take.now by result.0 result.1 }
     ensures took { (pass_now result.0).steps ≤ (pass_now by).steps + 8 }
 {
     let mut pass = by;
@@ -115,8 +117,8 @@ fn take_fast_walk<T>(
 
 // The exchange, which takes the value.
 #[inline]
-fn take_fast_exchange<T>(
-    on: &RingQueue<T>,
+fn take_fast_exchange<T, D: Tie<T>>(
+    on: &RingQueue<T, D>,
     by: running::Pass<T, SeatLine<T>>,
     there: TakeAt<T>,
     take: &Operation<T>,
@@ -125,8 +127,8 @@ fn take_fast_exchange<T>(
     Next<TakeAt<T>, Answered<Answer<T>>>,
 )
     requires named { take.now ≡ TakeFirst }
-    requires stands { TakeStands on.now by there }
-    ensures ran { TakeRan on.now take.now by result.0 result.1 }
+    requires stands { TakeStands D.rule on.now by there }
+    ensures ran { TakeRan D.rule on.now take.now by result.0 result.1 }
     ensures took { (pass_now result.0).steps ≤ (pass_now by).steps + 1 }
 {
     let TakeAt::Exchange(end) = there else {
@@ -138,8 +140,8 @@ fn take_fast_exchange<T>(
 
 // The move of the head, which follows one take in four.
 #[inline]
-fn take_fast_pass<T>(
-    on: &RingQueue<T>,
+fn take_fast_pass<T, D: Tie<T>>(
+    on: &RingQueue<T, D>,
     by: running::Pass<T, SeatLine<T>>,
     taken: TakeAt<T>,
     take: &Operation<T>,
@@ -148,8 +150,8 @@ fn take_fast_pass<T>(
     Next<TakeAt<T>, Answered<Answer<T>>>,
 )
     requires named { take.now ≡ TakeFirst }
-    requires stands { TakeStands on.now by taken }
-    ensures ran { TakeRan on.now take.now by result.0 result.1 }
+    requires stands { TakeStands D.rule on.now by taken }
+    ensures ran { TakeRan D.rule on.now take.now by result.0 result.1 }
     ensures took { (pass_now result.0).steps ≤ (pass_now by).steps + 1 }
 {
     let TakeAt::PassHead(walk, value) = taken else {
@@ -190,12 +192,7 @@ impl<T> RingQueue<T> {
             (is_call TakeCall) (pass_in by) result.0 result.1 }
         ensures new { HasNewCall by result.0 }
     {
-        let take = Operation::Take;
-        // Looked at here for the same reason as in `put`.
-        match take_fast(self, by, &take) {
-            (pass, Next::Done(answer)) => told(pass, answer),
-            under_way => whole(rt, self, under_way, take),
-        }
+        self.take_as(rt, by)
     }
 
     /// Takes a value on the fast path alone, as `put_at_once` puts one. The call makes at most 12
@@ -217,6 +214,30 @@ impl<T> RingQueue<T> {
                 Stepped::Done(back, reply)
             }
             under_way => leave(self, under_way, take),
+        }
+    }
+}
+
+impl<T, D: Tie<T>> RingQueue<T, D> {
+    /// Takes a value as `take` does, in a ring with a rule of its client, as `put_as` puts one.
+    #[inline(always)]
+    pub fn take_as<R: Wait>(&self, rt: &R, by: Pass<T>) -> (Pass<T>, Result<(T, u64), TakeRefused>)
+        requires pass { IsPassWith D.rule self.now by }
+        requires deal { TakeDeals (shape_of self.now) D.rule (pass_in by) }
+        ensures of { IsPassWith D.rule self.now result.0 }
+        ensures tied { D.rule (pass_in result.0).seen }
+        ensures gives { TakeGives (shape_of self.now) (pass_in by) (pass_in result.0) result.1 }
+        ensures answered { Answers (pass_in by) (pass_in result.0) (TakeAnswered result.1) }
+        ensures ran { WasRun (machine_with D.rule self.now)
+            (take_account self.now.table.shared.key)
+            (is_call TakeCall) (pass_in by) result.0 result.1 }
+        ensures new { HasNewCall by result.0 }
+    {
+        let take = Operation::Take;
+        // Looked at here for the same reason as in `put_as`.
+        match take_fast(self, by, &take) {
+            (pass, Next::Done(answer)) => told(pass, answer),
+            under_way => whole(rt, self, under_way, take),
         }
     }
 }

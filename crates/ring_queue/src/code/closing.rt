@@ -14,7 +14,7 @@ use bounded_model::Reply;
 use machine::seats::View;
 use ring_table::layout::{HEAD, TAIL};
 use ring_table::{Operation, SeatLine};
-use running::{Access, Code, Next, Op, Outcome, Replies};
+use running::{Access, Code, Next, Op, Outcome, Replies, Tie};
 
 /// A close that was begun.
 pub type CloseOp<T> = Op<T, SeatLine<T>, Operation<T>, MarkAt>;
@@ -109,13 +109,14 @@ impl MarkAt {
     }
 }
 
-impl<T> Code<RingQueue<T>, T, SeatLine<T>, Operation<T>, Ringed, Answered<bool>, 0> for MarkAt {
+impl<T, D: Tie<T>> Code<RingQueue<T, D>, T, SeatLine<T>, Operation<T>, Ringed<D>, Answered<bool>, 0>
+    for MarkAt {
     ghost use Rattle.ring_queue.specs.code.Closing.{mark_account};
 
     ghost account = { mark_account };
 
     #[inline(always)]
-    fn access(&self, on: &RingQueue<T>) -> Access {
+    fn access(&self, on: &RingQueue<T, D>) -> Access {
         match self {
             MarkAt::Walking(mark, at) => walk_access(on, mark.hint::<T>(), at),
             MarkAt::Setting(Mark::Closed, end) => {
@@ -130,7 +131,7 @@ impl<T> Code<RingQueue<T>, T, SeatLine<T>, Operation<T>, Ringed, Answered<bool>,
     #[inline(always)]
     fn next(
         self,
-        on: &RingQueue<T>,
+        on: &RingQueue<T, D>,
         _seat: &mut Seat<Option<T>, View<T, SeatLine<T>>>,
         outcome: Outcome,
     ) -> Next<MarkAt, Answered<bool>> {
@@ -162,7 +163,8 @@ impl<T> Code<RingQueue<T>, T, SeatLine<T>, Operation<T>, Ringed, Answered<bool>,
     }
 }
 
-impl<T> Replies<RingQueue<T>, T, SeatLine<T>, Operation<T>, Ringed, Spare, bool, 0> for MarkAt {
+impl<T, D: Tie<T>> Replies<RingQueue<T, D>, T, SeatLine<T>, Operation<T>, Ringed<D>, Spare, bool, 0>
+    for MarkAt {
     ghost use Rattle.std.specs.Prelude.{refl};
     ghost use Rattle.ring_queue.specs.code.KeepsAnswers.{mark_given, mark_promises};
 
@@ -170,7 +172,7 @@ impl<T> Replies<RingQueue<T>, T, SeatLine<T>, Operation<T>, Ringed, Spare, bool,
 
     ghost idle = { λ key o answer. refl };
 
-    ghost given = { mark_given };
+    ghost given = { mark_given D.rule };
 
     ghost kept = { λ key o answer. refl };
 }

@@ -8,7 +8,7 @@ use atomic_table::Seat;
 use machine::seats::View;
 use ring_table::layout::{HEAD, TAIL};
 use ring_table::{Operation, SeatLine};
-use running::{Access, Code, Next, Op, Outcome, Replies};
+use running::{Access, Code, Next, Op, Outcome, Replies, Tie};
 use tagged_index::Tagged;
 
 /// A count that was begun.
@@ -25,13 +25,14 @@ pub enum LenAt {
     CheckFront(Spare, Tagged, Tagged),
 }
 
-impl<T> Code<RingQueue<T>, T, SeatLine<T>, Operation<T>, Ringed, Answered<u64>, 0> for LenAt {
+impl<T, D: Tie<T>> Code<RingQueue<T, D>, T, SeatLine<T>, Operation<T>, Ringed<D>, Answered<u64>, 0>
+    for LenAt {
     ghost use Rattle.ring_queue.specs.code.Counting.{len_account};
 
     ghost account = { len_account };
 
     #[inline(always)]
-    fn access(&self, on: &RingQueue<T>) -> Access {
+    fn access(&self, on: &RingQueue<T, D>) -> Access {
         match self {
             LenAt::ToFront(at) => walk_access(on, HEAD, at),
             LenAt::ToBack(_, at) => walk_access(on, TAIL, at),
@@ -42,7 +43,7 @@ impl<T> Code<RingQueue<T>, T, SeatLine<T>, Operation<T>, Ringed, Answered<u64>, 
     #[inline(always)]
     fn next(
         self,
-        on: &RingQueue<T>,
+        on: &RingQueue<T, D>,
         _seat: &mut Seat<Option<T>, View<T, SeatLine<T>>>,
         outcome: Outcome,
     ) -> Next<LenAt, Answered<u64>> {
@@ -77,7 +78,8 @@ impl<T> Code<RingQueue<T>, T, SeatLine<T>, Operation<T>, Ringed, Answered<u64>, 
     }
 }
 
-impl<T> Replies<RingQueue<T>, T, SeatLine<T>, Operation<T>, Ringed, Spare, u64, 0> for LenAt {
+impl<T, D: Tie<T>> Replies<RingQueue<T, D>, T, SeatLine<T>, Operation<T>, Ringed<D>, Spare, u64, 0>
+    for LenAt {
     ghost use Rattle.std.specs.Prelude.{refl};
     ghost use Rattle.ring_queue.specs.code.KeepsGauge.{len_given, len_promises};
 
@@ -85,7 +87,7 @@ impl<T> Replies<RingQueue<T>, T, SeatLine<T>, Operation<T>, Ringed, Spare, u64, 
 
     ghost idle = { λ key o answer. refl };
 
-    ghost given = { len_given };
+    ghost given = { len_given D.rule };
 
     ghost kept = { λ key o answer. refl };
 }

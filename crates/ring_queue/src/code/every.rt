@@ -1,7 +1,7 @@
 //! Every call of a ring as one operation.
 ghost use Rattle.std.specs.Prelude.{◌≡◌};
 ghost use Rattle.bounded_model.specs.declared.commands.Command.TheVariants.{Put as PutCall, Take as TakeCall, Look as LookCall};
-ghost use Rattle.ring_queue.specs.Calls.{IsLooking, IsPutting, RingQueue, IsMakingCall, IsTaking};
+ghost use Rattle.ring_queue.specs.Calls.{IsLooking, IsPutting, RingQueue as FreeRing, IsMakingCall, IsTaking};
 
 use crate::code::closing::MarkAt;
 use crate::code::looking::{LookAt, LookOp};
@@ -14,7 +14,7 @@ use atomic_table::Seat;
 use bounded_model::Reply;
 use machine::View;
 use ring_table::{Operation, SeatLine};
-use running::{Access, Code, Next, Op, Outcome, Replies};
+use running::{Access, Code, Next, Op, Outcome, Replies, Tie};
 
 /// A put, a take, a close, a shut or a look that was begun. A count and a gauge have types of their
 /// own.
@@ -33,7 +33,7 @@ impl<T> RingAt<T> {
     /// A put that was begun, as an operation of any call.
     #[inline(always)]
     pub fn of_put(op: PutOp<T>) -> AnyOp<T>
-        ensures makes { (c : RingQueue T) (x : T) → IsPutting c x op → IsMakingCall c (PutCall x) result }
+        ensures makes { (c : FreeRing T) (x : T) → IsPutting c x op → IsMakingCall c (PutCall x) result }
         ensures same { result.pass ≡ op.pass }
     {
         let Op {
@@ -51,7 +51,7 @@ impl<T> RingAt<T> {
     /// A take that was begun, as an operation of any call.
     #[inline(always)]
     pub fn of_take(op: TakeOp<T>) -> AnyOp<T>
-        ensures makes { (c : RingQueue T) → IsTaking c op → IsMakingCall c TakeCall result }
+        ensures makes { (c : FreeRing T) → IsTaking c op → IsMakingCall c TakeCall result }
         ensures same { result.pass ≡ op.pass }
     {
         let Op {
@@ -69,7 +69,7 @@ impl<T> RingAt<T> {
     /// A look that was begun, as an operation of any call.
     #[inline(always)]
     pub fn of_look(op: LookOp<T>) -> AnyOp<T>
-        ensures makes { (c : RingQueue T) → IsLooking c op → IsMakingCall c LookCall result }
+        ensures makes { (c : FreeRing T) → IsLooking c op → IsMakingCall c LookCall result }
         ensures same { result.pass ≡ op.pass }
     {
         let Op {
@@ -85,8 +85,15 @@ impl<T> RingAt<T> {
     }
 }
 
-impl<T> Code<RingQueue<T>, T, SeatLine<T>, Operation<T>, Ringed, Answered<Reply<T>>, 0>
-    for RingAt<T> {
+impl<T, D: Tie<T>> Code<
+    RingQueue<T, D>,
+    T,
+    SeatLine<T>,
+    Operation<T>,
+    Ringed<D>,
+    Answered<Reply<T>>,
+    0,
+> for RingAt<T> {
     ghost use Rattle.ring_queue.specs.code.Every.{every_account};
 
     ghost account = { every_account };
@@ -101,7 +108,7 @@ impl<T> Code<RingQueue<T>, T, SeatLine<T>, Operation<T>, Ringed, Answered<Reply<
     }
 
     #[inline(always)]
-    fn access(&self, on: &RingQueue<T>) -> Access {
+    fn access(&self, on: &RingQueue<T, D>) -> Access {
         match self {
             RingAt::Put(at) => at.access(on),
             RingAt::Take(at) => at.access(on),
@@ -113,7 +120,7 @@ impl<T> Code<RingQueue<T>, T, SeatLine<T>, Operation<T>, Ringed, Answered<Reply<
     #[inline(always)]
     fn next(
         self,
-        on: &RingQueue<T>,
+        on: &RingQueue<T, D>,
         seat: &mut Seat<Option<T>, View<T, SeatLine<T>>>,
         outcome: Outcome,
     ) -> Next<RingAt<T>, Answered<Reply<T>>> {
@@ -169,8 +176,16 @@ impl<T> Code<RingQueue<T>, T, SeatLine<T>, Operation<T>, Ringed, Answered<Reply<
     }
 }
 
-impl<T> Replies<RingQueue<T>, T, SeatLine<T>, Operation<T>, Ringed, Spare, Reply<T>, 0>
-    for RingAt<T> {
+impl<T, D: Tie<T>> Replies<
+    RingQueue<T, D>,
+    T,
+    SeatLine<T>,
+    Operation<T>,
+    Ringed<D>,
+    Spare,
+    Reply<T>,
+    0,
+> for RingAt<T> {
     ghost use Rattle.std.specs.Prelude.{refl};
     ghost use Rattle.ring_queue.specs.code.KeepsEvery.{every_given, every_promises};
 
@@ -178,7 +193,7 @@ impl<T> Replies<RingQueue<T>, T, SeatLine<T>, Operation<T>, Ringed, Spare, Reply
 
     ghost idle = { λ key o answer. refl };
 
-    ghost given = { every_given };
+    ghost given = { every_given D.rule };
 
     ghost kept = { λ key o answer. refl };
 }

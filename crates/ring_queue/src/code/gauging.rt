@@ -9,7 +9,7 @@ use atomic_table::Seat;
 use machine::seats::View;
 use ring_table::layout::TAIL;
 use ring_table::{Operation, SeatLine};
-use running::{Access, Code, Next, Op, Outcome, Replies};
+use running::{Access, Code, Next, Op, Outcome, Replies, Tie};
 
 /// A gauge that was begun.
 pub type GaugeOp<T> = Op<T, SeatLine<T>, Operation<T>, GaugeAt>;
@@ -20,20 +20,28 @@ pub struct GaugeAt {
     pub(crate) at: WalkAt,
 }
 
-impl<T> Code<RingQueue<T>, T, SeatLine<T>, Operation<T>, Ringed, Answered<Gauge>, 0> for GaugeAt {
+impl<T, D: Tie<T>> Code<
+    RingQueue<T, D>,
+    T,
+    SeatLine<T>,
+    Operation<T>,
+    Ringed<D>,
+    Answered<Gauge>,
+    0,
+> for GaugeAt {
     ghost use Rattle.ring_queue.specs.code.Gauging.{gauge_account};
 
     ghost account = { gauge_account };
 
     #[inline(always)]
-    fn access(&self, on: &RingQueue<T>) -> Access {
+    fn access(&self, on: &RingQueue<T, D>) -> Access {
         walk_access(on, TAIL, &self.at)
     }
 
     #[inline(always)]
     fn next(
         self,
-        on: &RingQueue<T>,
+        on: &RingQueue<T, D>,
         _seat: &mut Seat<Option<T>, View<T, SeatLine<T>>>,
         outcome: Outcome,
     ) -> Next<GaugeAt, Answered<Gauge>> {
@@ -53,7 +61,16 @@ impl<T> Code<RingQueue<T>, T, SeatLine<T>, Operation<T>, Ringed, Answered<Gauge>
     }
 }
 
-impl<T> Replies<RingQueue<T>, T, SeatLine<T>, Operation<T>, Ringed, Spare, Gauge, 0> for GaugeAt {
+impl<T, D: Tie<T>> Replies<
+    RingQueue<T, D>,
+    T,
+    SeatLine<T>,
+    Operation<T>,
+    Ringed<D>,
+    Spare,
+    Gauge,
+    0,
+> for GaugeAt {
     ghost use Rattle.std.specs.Prelude.{refl};
     ghost use Rattle.ring_queue.specs.code.KeepsGauge.{gauge_given, gauge_promises};
 
@@ -61,7 +78,7 @@ impl<T> Replies<RingQueue<T>, T, SeatLine<T>, Operation<T>, Ringed, Spare, Gauge
 
     ghost idle = { λ key o answer. refl };
 
-    ghost given = { gauge_given };
+    ghost given = { gauge_given D.rule };
 
     ghost kept = { λ key o answer. refl };
 }

@@ -9,7 +9,7 @@ use atomic_table::Seat;
 use machine::seats::View;
 use ring_table::layout::HEAD;
 use ring_table::{Operation, SeatLine};
-use running::{Access, Code, Next, Op, Outcome, Replies};
+use running::{Access, Code, Next, Op, Outcome, Replies, Tie};
 
 /// A look that was begun.
 pub type LookOp<T> = Op<T, SeatLine<T>, Operation<T>, LookAt>;
@@ -20,20 +20,21 @@ pub struct LookAt {
     pub(crate) at: WalkAt,
 }
 
-impl<T> Code<RingQueue<T>, T, SeatLine<T>, Operation<T>, Ringed, Answered<bool>, 0> for LookAt {
+impl<T, D: Tie<T>> Code<RingQueue<T, D>, T, SeatLine<T>, Operation<T>, Ringed<D>, Answered<bool>, 0>
+    for LookAt {
     ghost use Rattle.ring_queue.specs.code.Looking.{look_account};
 
     ghost account = { look_account };
 
     #[inline(always)]
-    fn access(&self, on: &RingQueue<T>) -> Access {
+    fn access(&self, on: &RingQueue<T, D>) -> Access {
         walk_access(on, HEAD, &self.at)
     }
 
     #[inline(always)]
     fn next(
         self,
-        on: &RingQueue<T>,
+        on: &RingQueue<T, D>,
         _seat: &mut Seat<Option<T>, View<T, SeatLine<T>>>,
         outcome: Outcome,
     ) -> Next<LookAt, Answered<bool>> {
@@ -48,7 +49,8 @@ impl<T> Code<RingQueue<T>, T, SeatLine<T>, Operation<T>, Ringed, Answered<bool>,
     }
 }
 
-impl<T> Replies<RingQueue<T>, T, SeatLine<T>, Operation<T>, Ringed, Spare, bool, 0> for LookAt {
+impl<T, D: Tie<T>> Replies<RingQueue<T, D>, T, SeatLine<T>, Operation<T>, Ringed<D>, Spare, bool, 0>
+    for LookAt {
     ghost use Rattle.std.specs.Prelude.{refl};
     ghost use Rattle.ring_queue.specs.code.KeepsAnswers.{look_given, look_promises};
 
@@ -56,7 +58,7 @@ impl<T> Replies<RingQueue<T>, T, SeatLine<T>, Operation<T>, Ringed, Spare, bool,
 
     ghost idle = { λ key o answer. refl };
 
-    ghost given = { look_given };
+    ghost given = { look_given D.rule };
 
     ghost kept = { λ key o answer. refl };
 }

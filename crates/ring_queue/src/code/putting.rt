@@ -15,7 +15,7 @@ use index_list::{move_out, put_in};
 use machine::seats::View;
 use ring_table::layout::TAIL;
 use ring_table::{Operation, SeatLine};
-use running::{Access, Code, Next, Op, Outcome, Replies, raised};
+use running::{Access, Code, Next, Op, Outcome, Replies, Tie, raised};
 use std::snapshot::Snapshot;
 use tagged_index::Tagged;
 
@@ -57,7 +57,7 @@ fn refused<T>(walk: &Walk, slot: Tagged, value: T) -> PutRefused<T>
 // Whether a value may be put at the back: the ring is open, and the slot is empty and not worn. The
 // tag of an empty slot is even, so an odd tag limit allows no more than the even one below it.
 #[inline(always)]
-fn has_room<T>(on: &RingQueue<T>, end: &Found) -> bool
+fn has_room<T, D: Tie<T>>(on: &RingQueue<T, D>, end: &Found) -> bool
     ensures { result ≡ has_room (laps_of on.now) end.now.walk.at end.now.slot }
 {
     !end.slot.is_marked()
@@ -65,8 +65,15 @@ fn has_room<T>(on: &RingQueue<T>, end: &Found) -> bool
         && end.slot.tag() + 1 < on.limits.tag_limit()
 }
 
-impl<T> Code<RingQueue<T>, T, SeatLine<T>, Operation<T>, Ringed, Answered<Answer<T>>, 0>
-    for PutAt<T> {
+impl<T, D: Tie<T>> Code<
+    RingQueue<T, D>,
+    T,
+    SeatLine<T>,
+    Operation<T>,
+    Ringed<D>,
+    Answered<Answer<T>>,
+    0,
+> for PutAt<T> {
     ghost use Rattle.ring_queue.specs.code.Putting.{put_account};
 
     ghost account = { put_account };
@@ -77,7 +84,7 @@ impl<T> Code<RingQueue<T>, T, SeatLine<T>, Operation<T>, Ringed, Answered<Answer
     }
 
     #[inline(always)]
-    fn access(&self, on: &RingQueue<T>) -> Access {
+    fn access(&self, on: &RingQueue<T, D>) -> Access {
         match self {
             PutAt::FetchTail(_, _) => Access::Fetch(TAIL),
             PutAt::Walking(_, at) => walk_access(on, TAIL, at),
@@ -93,7 +100,7 @@ impl<T> Code<RingQueue<T>, T, SeatLine<T>, Operation<T>, Ringed, Answered<Answer
     #[inline(always)]
     fn next(
         self,
-        on: &RingQueue<T>,
+        on: &RingQueue<T, D>,
         seat: &mut Seat<Option<T>, View<T, SeatLine<T>>>,
         outcome: Outcome,
     ) -> Next<PutAt<T>, Answered<Answer<T>>> {
@@ -154,8 +161,16 @@ impl<T> Code<RingQueue<T>, T, SeatLine<T>, Operation<T>, Ringed, Answered<Answer
     }
 }
 
-impl<T> Replies<RingQueue<T>, T, SeatLine<T>, Operation<T>, Ringed, Spare, Answer<T>, 0>
-    for PutAt<T> {
+impl<T, D: Tie<T>> Replies<
+    RingQueue<T, D>,
+    T,
+    SeatLine<T>,
+    Operation<T>,
+    Ringed<D>,
+    Spare,
+    Answer<T>,
+    0,
+> for PutAt<T> {
     ghost use Rattle.std.specs.Prelude.{refl};
     ghost use Rattle.ring_queue.specs.code.KeepsAnswers.{put_given};
     ghost use Rattle.ring_queue.specs.code.KeepsAnswers.{put_promises};
@@ -164,7 +179,7 @@ impl<T> Replies<RingQueue<T>, T, SeatLine<T>, Operation<T>, Ringed, Spare, Answe
 
     ghost idle = { λ key o answer. refl };
 
-    ghost given = { put_given };
+    ghost given = { put_given D.rule };
 
     ghost kept = { λ key o answer. refl };
 }

@@ -13,7 +13,7 @@ use index_list::move_out;
 use machine::seats::View;
 use ring_table::layout::HEAD;
 use ring_table::{Operation, SeatLine};
-use running::{Access, Code, Next, Op, Outcome, Replies, raised};
+use running::{Access, Code, Next, Op, Outcome, Replies, Tie, raised};
 
 /// A take that was begun.
 pub type TakeOp<T> = Op<T, SeatLine<T>, Operation<T>, TakeAt<T>>;
@@ -52,8 +52,15 @@ fn refusal(end: &Found) -> Option<TakeRefused>
     Some(TakeRefused::Empty)
 }
 
-impl<T> Code<RingQueue<T>, T, SeatLine<T>, Operation<T>, Ringed, Answered<Answer<T>>, 0>
-    for TakeAt<T> {
+impl<T, D: Tie<T>> Code<
+    RingQueue<T, D>,
+    T,
+    SeatLine<T>,
+    Operation<T>,
+    Ringed<D>,
+    Answered<Answer<T>>,
+    0,
+> for TakeAt<T> {
     ghost use Rattle.ring_queue.specs.code.Taking.{take_account};
 
     ghost account = { take_account };
@@ -64,7 +71,7 @@ impl<T> Code<RingQueue<T>, T, SeatLine<T>, Operation<T>, Ringed, Answered<Answer
     }
 
     #[inline(always)]
-    fn access(&self, on: &RingQueue<T>) -> Access {
+    fn access(&self, on: &RingQueue<T, D>) -> Access {
         match self {
             TakeAt::Walking(at) => walk_access(on, HEAD, at),
             TakeAt::Exchange(end) => {
@@ -79,7 +86,7 @@ impl<T> Code<RingQueue<T>, T, SeatLine<T>, Operation<T>, Ringed, Answered<Answer
     #[inline(always)]
     fn next(
         self,
-        on: &RingQueue<T>,
+        on: &RingQueue<T, D>,
         seat: &mut Seat<Option<T>, View<T, SeatLine<T>>>,
         outcome: Outcome,
     ) -> Next<TakeAt<T>, Answered<Answer<T>>> {
@@ -120,8 +127,16 @@ impl<T> Code<RingQueue<T>, T, SeatLine<T>, Operation<T>, Ringed, Answered<Answer
     }
 }
 
-impl<T> Replies<RingQueue<T>, T, SeatLine<T>, Operation<T>, Ringed, Spare, Answer<T>, 0>
-    for TakeAt<T> {
+impl<T, D: Tie<T>> Replies<
+    RingQueue<T, D>,
+    T,
+    SeatLine<T>,
+    Operation<T>,
+    Ringed<D>,
+    Spare,
+    Answer<T>,
+    0,
+> for TakeAt<T> {
     ghost use Rattle.std.specs.Prelude.{refl};
     ghost use Rattle.ring_queue.specs.code.KeepsAnswers.{take_given, take_promises};
 
@@ -129,7 +144,7 @@ impl<T> Replies<RingQueue<T>, T, SeatLine<T>, Operation<T>, Ringed, Spare, Answe
 
     ghost idle = { λ key o answer. refl };
 
-    ghost given = { take_given };
+    ghost given = { take_given D.rule };
 
     ghost kept = { λ key o answer. refl };
 }

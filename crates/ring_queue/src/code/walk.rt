@@ -8,7 +8,7 @@ ghost use Rattle.ring_table.specs.Layout.{slot_at};
 use crate::life::ring::RingQueue;
 use crate::life::spare::Spare;
 use ring_table::layout;
-use running::raised;
+use running::{Tie, raised};
 use tagged_index::Tagged;
 
 /// A walk along the positions: a position's index says which slot, and its tag in which lap.
@@ -35,7 +35,7 @@ impl Walk {
 
     /// A walk from this hint.
     #[inline(always)]
-    pub(crate) fn from<T>(on: &RingQueue<T>, spare: Spare, hint: Tagged) -> Walk
+    pub(crate) fn from<T, D: Tie<T>>(on: &RingQueue<T, D>, spare: Spare, hint: Tagged) -> Walk
         ensures start { (result.spare ≡ spare) × (result.from ≡ hint) × (result.at ≡ hint)
             × (result.gone ≡ 0) }
         ensures place { result.place ≡ slot_at (room_of on.now) (index_of hint) }
@@ -68,7 +68,7 @@ impl Walk {
 
     // Whether its slot is the last.
     #[inline(always)]
-    fn is_last<T>(&self, on: &RingQueue<T>) -> bool
+    fn is_last<T, D: Tie<T>>(&self, on: &RingQueue<T, D>) -> bool
         requires at { index_of self.now.at < room_of on.now }
         requires place { self.now.place ≡ slot_at (room_of on.now) (index_of self.now.at) }
         ensures { result ≡ (index_of self.now.at + 1 == room_of on.now) }
@@ -78,7 +78,7 @@ impl Walk {
 
     /// The walk at the next position.
     #[inline(always)]
-    pub(crate) fn further<T>(self, on: &RingQueue<T>) -> Walk
+    pub(crate) fn further<T, D: Tie<T>>(self, on: &RingQueue<T, D>) -> Walk
         requires at { (index_of self.at < room_of on.now) × (tag_of self.at < MAX_TAG) }
         requires place { self.place ≡ slot_at (room_of on.now) (index_of self.at) }
         requires gone { self.gone < stride }

@@ -16,7 +16,7 @@ use crate::code::walk::Walk;
 use crate::life::ring::RingQueue;
 use crate::life::spare::Spare;
 use ring_table::layout;
-use running::{Access, Next, Outcome, raised};
+use running::{Access, Next, Outcome, Tie, raised};
 use tagged_index::Tagged;
 
 /// A walk passes fewer positions than this, and then moves the hint.
@@ -47,7 +47,7 @@ pub struct Found {
 
 /// The word of the slot at a position.
 #[inline(always)]
-pub(crate) fn slot_of<T>(on: &RingQueue<T>, at: Tagged) -> usize
+pub(crate) fn slot_of<T, D: Tie<T>>(on: &RingQueue<T, D>, at: Tagged) -> usize
     ensures { result ≡ slot_at (room_of on.now) (index_of at) }
 {
     layout::slot(on.limits.capacity(), at.index())
@@ -55,7 +55,7 @@ pub(crate) fn slot_of<T>(on: &RingQueue<T>, at: Tagged) -> usize
 
 /// The number of a position.
 #[inline(always)]
-pub(crate) fn place_of<T>(on: &RingQueue<T>, at: Tagged) -> u64
+pub(crate) fn place_of<T, D: Tie<T>>(on: &RingQueue<T, D>, at: Tagged) -> u64
     ensures { result ≡ place (room_of on.now) (fields_of at) }
 {
     at.tag() * on.limits.capacity() as u64 + at.index() as u64
@@ -63,7 +63,7 @@ pub(crate) fn place_of<T>(on: &RingQueue<T>, at: Tagged) -> u64
 
 /// The next position.
 #[inline(always)]
-pub(crate) fn behind<T>(on: &RingQueue<T>, at: Tagged) -> Tagged
+pub(crate) fn behind<T, D: Tie<T>>(on: &RingQueue<T, D>, at: Tagged) -> Tagged
     requires { (index_of at < room_of on.now) × (tag_of at < MAX_TAG) }
     ensures { fields_of result ≡ behind (room_of on.now) (fields_of at) }
 {
@@ -76,7 +76,7 @@ pub(crate) fn behind<T>(on: &RingQueue<T>, at: Tagged) -> Tagged
 
 /// What the next step of a walk does.
 #[inline(always)]
-pub(crate) fn walk_access<T>(on: &RingQueue<T>, hint: usize, at: &WalkAt) -> Access
+pub(crate) fn walk_access<T, D: Tie<T>>(on: &RingQueue<T, D>, hint: usize, at: &WalkAt) -> Access
     requires { IsRead (room_of on.now) at.now }
     ensures { (aim : Aim T) (slots : List (ℕ × Slot T)) → hint ≡ hint_of aim
         → IsAccess (machine_of on.now).core lists 0 on.now.table.shared.table_id.words
@@ -92,8 +92,8 @@ pub(crate) fn walk_access<T>(on: &RingQueue<T>, hint: usize, at: &WalkAt) -> Acc
 /// The walk after a step with this outcome. It passes a slot whose tag is above that of the
 /// empty slot at this lap plus `full`.
 #[inline(always)]
-pub(crate) fn walk_on<T>(
-    on: &RingQueue<T>,
+pub(crate) fn walk_on<T, D: Tie<T>>(
+    on: &RingQueue<T, D>,
     full: u64,
     at: WalkAt,
     outcome: Outcome,

@@ -5,7 +5,7 @@ ghost use Rattle.bounded_model.specs.Laws.{fresh};
 ghost use Rattle.ring_table.specs.Layout.{words_for, start_at};
 ghost use Rattle.ring_table.specs.Seats.{cells_from};
 ghost use Rattle.ring_queue.specs.code.Machine.{shape_at};
-ghost use Rattle.ring_queue.specs.Calls.{cells_of, shape_of, IsRootOf, root_in};
+ghost use Rattle.ring_queue.specs.Calls.{cells_of, shape_of, IsRootOf, IsRootWith, root_in};
 
 use crate::life::limits::RingLimits;
 use crate::life::ring::{RingQueue, Root};
@@ -13,6 +13,7 @@ use crate::life::spare::Spare;
 use atomic_table::Table;
 use bounded_model::MakeRefused;
 use ring_table::layout;
+use running::{Free, Tie};
 use std::alloc::{AllocError, Global};
 
 // The words of a new ring.
@@ -51,6 +52,20 @@ impl<T> RingQueue<T> {
     pub fn new(alloc: Global, limits: RingLimits) -> Result<(RingQueue<T>, Root<T>), MakeRefused>
         ensures { IfOk result (λ t. (t.0.table.shared.key ≡ limits.limits)
             × IsRootOf t.0 t.1 × (root_in t.1 ≡ fresh)
+            × (shape_of t.0 ≡ shape_at T limits.limits)) }
+    {
+        RingQueue::<T, Free>::new_tied(alloc, limits)
+    }
+}
+
+impl<T, D: Tie<T>> RingQueue<T, D> {
+    /// Like `new`, for a ring whose history keeps the rule `D`.
+    pub fn new_tied(
+        alloc: Global,
+        limits: RingLimits,
+    ) -> Result<(RingQueue<T, D>, Root<T>), MakeRefused>
+        ensures { IfOk result (λ t. (t.0.table.shared.key ≡ limits.limits)
+            × IsRootWith D.rule t.0 t.1 × (root_in t.1 ≡ fresh)
             × (shape_of t.0 ≡ shape_at T limits.limits)) }
     {
         let capacity = limits.capacity();

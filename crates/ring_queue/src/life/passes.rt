@@ -6,25 +6,26 @@ ghost use Rattle.running.specs.Kept.{acts_in, acts_of_root};
 ghost use Rattle.running.specs.Passes.{acts_of_note, told_in};
 ghost use Rattle.ring_table.specs.Seats.{names};
 ghost use Rattle.ring_table.specs.declared.line.SeatLine.{SeatLine};
-ghost use Rattle.ring_queue.specs.Calls.{IsNoteOf, IsPassOf, keeps, pass_in, shape_of, IsRootOf, Stocks, root_in};
+ghost use Rattle.ring_queue.specs.Calls.{IsNoteWith, IsPassWith, keeps, pass_in, shape_of, IsRootWith, Stocks, root_in};
 ghost use Rattle.ring_queue.specs.code.Roots.{MayGive, MayTake};
 
 use crate::life::ring::{Note, Pass, RingQueue, Root};
 use crate::life::spare::Spare;
 use crate::rule::Ringed;
 use ring_table::{Operation, SeatLine};
+use running::Tie;
 use tagged_index::Limits;
 
-impl<T> RingQueue<T> {
+impl<T, D: Tie<T>> RingQueue<T, D> {
     /// Gives a new pass, which has seen what the root has and keeps its acts. `None` exactly if as many passes are out
     /// as the ring is for; then nothing has changed.
     pub fn split(&self, parent: &mut Root<T>) -> Option<Pass<T>>
-        requires { IsRootOf self.now parent.old }
-        ensures root { IsRootOf self.now parent.new }
+        requires { IsRootWith D.rule self.now parent.old }
+        ensures root { IsRootWith D.rule self.now parent.new }
         ensures gives { MatchOption result
             ((root_in parent.new ≡ root_in parent.old)
             × IsFullOfPasses (shape_of self.now) (root_in parent.old))
-            (λ p. IsPassOf self.now p
+            (λ p. IsPassWith D.rule self.now p
             × Splits (shape_of self.now) (root_in parent.old) (root_in parent.new) (pass_in p)) }
         ensures acts { MatchOption result
             (acts_of_root parent.new ≡ acts_of_root parent.old)
@@ -36,7 +37,7 @@ impl<T> RingQueue<T> {
             return None;
         }
         let kept = give::<T>(&self.limits, &mut parent.stock);
-        let Some(pass) = running::split::<T, SeatLine<T>, Operation<T>, Ringed>(
+        let Some(pass) = running::split::<T, SeatLine<T>, Operation<T>, Ringed<D>>(
             &self.table.shared,
             &mut parent.root,
             most,
@@ -49,10 +50,10 @@ impl<T> RingQueue<T> {
     /// Lets the first pass see what the second has seen, and keep its acts too. The second comes back as it was. The first
     /// pass counts one step. The answer is always true, since the table never lacks a seat.
     pub fn meet(&self, first: &mut Pass<T>, second: Pass<T>) -> (Pass<T>, bool)
-        requires first { IsPassOf self.now first.old }
-        requires second { IsPassOf self.now second }
-        ensures first { IsPassOf self.now first.new }
-        ensures second { IsPassOf self.now result.0 × (pass_in result.0 ≡ pass_in second) }
+        requires first { IsPassWith D.rule self.now first.old }
+        requires second { IsPassWith D.rule self.now second }
+        ensures first { IsPassWith D.rule self.now first.new }
+        ensures second { IsPassWith D.rule self.now result.0 × (pass_in result.0 ≡ pass_in second) }
         ensures gives { MeetGives (pass_in first.old) (pass_in second) (pass_in first.new)
             result.1 }
         ensures met { result.1 ≡ true }
@@ -61,7 +62,7 @@ impl<T> RingQueue<T> {
             × (acts_in result.0 ≡ acts_in second) }
     {
         let Pass { pass, kept } = second;
-        let (pass, met) = running::meet::<T, SeatLine<T>, Operation<T>, Ringed>(
+        let (pass, met) = running::meet::<T, SeatLine<T>, Operation<T>, Ringed<D>>(
             &self.table.shared,
             &mut first.pass,
             pass,
@@ -72,28 +73,31 @@ impl<T> RingQueue<T> {
     /// Makes a note of what the pass has seen, and of the acts that it keeps. The answer is always some note, since the table
     /// never lacks a seat.
     pub fn note(&self, by: &mut Pass<T>) -> Option<Note<T>>
-        requires { IsPassOf self.now by.old }
-        ensures pass { IsPassOf self.now by.new × (pass_in by.new ≡ pass_in by.old) }
-        ensures gives { IfSome result (λ n. IsNoteOf self.now n
+        requires { IsPassWith D.rule self.now by.old }
+        ensures pass { IsPassWith D.rule self.now by.new × (pass_in by.new ≡ pass_in by.old) }
+        ensures gives { IfSome result (λ n. IsNoteWith D.rule self.now n
             × (told_in n ≡ (pass_in by.old).seen)) }
         ensures made { IsSome result }
         ensures acts { (acts_in by.new ≡ acts_in by.old)
             × IfSome result (λ n. acts_of_note n ≡ acts_in by.old) }
     {
-        running::make_note::<T, SeatLine<T>, Operation<T>, Ringed>(&self.table.shared, &mut by.pass)
+        running::make_note::<T, SeatLine<T>, Operation<T>, Ringed<D>>(
+            &self.table.shared,
+            &mut by.pass,
+        )
     }
 
     /// The pass has now seen at least what the note tells, and keeps its acts. So no later call of the pass gives an
     /// answer that was right only before the note was made. It counts one step.
     pub fn heed(&self, by: &mut Pass<T>, note: Note<T>)
-        requires pass { IsPassOf self.now by.old }
-        requires note { IsNoteOf self.now note }
-        ensures of { IsPassOf self.now by.new }
+        requires pass { IsPassWith D.rule self.now by.old }
+        requires note { IsNoteWith D.rule self.now note }
+        ensures of { IsPassWith D.rule self.now by.new }
         ensures gives { Heeds (pass_in by.old) (told_in note) (pass_in by.new) }
         ensures acts { Extends (acts_in by.old) (acts_in by.new)
             × Extends (acts_of_note note) (acts_in by.new) }
     {
-        running::heed::<T, SeatLine<T>, Operation<T>, Ringed>(
+        running::heed::<T, SeatLine<T>, Operation<T>, Ringed<D>>(
             &self.table.shared,
             &mut by.pass,
             note,
@@ -103,15 +107,15 @@ impl<T> RingQueue<T> {
     /// The root takes a pass back: it has now seen what the pass has, and keeps its acts. Its place is free for another
     /// pass.
     pub fn join(&self, parent: &mut Root<T>, by: Pass<T>)
-        requires root { IsRootOf self.now parent.old }
-        requires pass { IsPassOf self.now by }
-        ensures root { IsRootOf self.now parent.new }
+        requires root { IsRootWith D.rule self.now parent.old }
+        requires pass { IsPassWith D.rule self.now by }
+        ensures root { IsRootWith D.rule self.now parent.new }
         ensures gives { Joins (root_in parent.old) (pass_in by) (root_in parent.new) }
         ensures acts { Extends (acts_of_root parent.old) (acts_of_root parent.new)
             × Extends (acts_in by) (acts_of_root parent.new) }
     {
         let Pass { pass, kept } = by;
-        running::join::<T, SeatLine<T>, Operation<T>, Ringed>(
+        running::join::<T, SeatLine<T>, Operation<T>, Ringed<D>>(
             &self.table.shared,
             &mut parent.root,
             pass,

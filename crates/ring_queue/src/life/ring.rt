@@ -11,19 +11,20 @@ use atomic_table::{Shared, Table};
 use machine::View;
 use ring_table::layout::HEAD;
 use ring_table::{Operation, SeatLine};
-use running::{HasTable, Keeping, OnTable, Running};
+use running::{Free, HasTable, Keeping, OnTable, Running, Tie};
 use std::alloc::Global;
 use tagged_index::Limits;
 
-/// A bounded queue, first in, first out, for a number of passes that is fixed when it is made.
+/// A bounded queue, first in, first out, for a number of passes that is fixed when it is made. Its
+/// history keeps the rule `D`, which a client may give it.
 #[derive(Drop)]
-pub struct RingQueue<T> {
+pub struct RingQueue<T, D: Tie<T> = Free> {
     /// The words and values. Only calls change them.
     pub table: Table<
         Option<T>,
         View<T, SeatLine<T>>,
         Limits,
-        Running<Operation<T>, Ringed>,
+        Running<Operation<T>, Ringed<D>>,
         Global,
     >,
     /// What it was made with: the key of its table.
@@ -58,7 +59,7 @@ pub type Note<T> = running::Note<T, SeatLine<T>>;
 /// What an operation has answered, and which cell is the spare one of its pass now.
 pub type Answered<R> = running::Answered<Spare, R>;
 
-impl<T> OnTable for RingQueue<T> {
+impl<T, D: Tie<T>> OnTable for RingQueue<T, D> {
     ghost key = { λ c. c.table.shared.key };
 
     ghost id = { λ c. c.table.shared.table_id };
@@ -72,16 +73,16 @@ impl<T> OnTable for RingQueue<T> {
     }
 }
 
-impl<T> HasTable<T, SeatLine<T>, Operation<T>, Ringed> for RingQueue<T> {
+impl<T, D: Tie<T>> HasTable<T, SeatLine<T>, Operation<T>, Ringed<D>> for RingQueue<T, D> {
     #[inline(always)]
     fn table(
         &self,
-    ) -> &Shared<Option<T>, View<T, SeatLine<T>>, Limits, Running<Operation<T>, Ringed>> {
+    ) -> &Shared<Option<T>, View<T, SeatLine<T>>, Limits, Running<Operation<T>, Ringed<D>>> {
         &self.table.shared
     }
 }
 
-impl<T> Keeping<SeatLine<T>, Spare> for RingQueue<T> {
+impl<T, D: Tie<T>> Keeping<SeatLine<T>, Spare> for RingQueue<T, D> {
     ghost use Rattle.ring_queue.specs.Calls.{keeps};
 
     ghost keeps = { keeps };

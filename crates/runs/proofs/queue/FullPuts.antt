@@ -12,9 +12,8 @@ use Rattle.queue_machine.specs.declared.lines.Call.TheVariants.{Put as CallPut, 
 use Rattle.queue_machine.specs.declared.lines.Line.{Line}
 use Rattle.queue_machine.specs.Machine.{ends, starts}
 use Rattle.queue_table.specs.declared.operation.Operation.{Operation}
-use Rattle.queue_table.specs.Core.{core}
+use Rattle.queue_table.specs.Core.{core, queue}
 use Rattle.queue_table.specs.Lines.{call_of, names}
-use Rattle.queue_table.proofs.Laws.{queue}
 use Rattle.running.specs.Going.{HasRun}
 use Rattle.step_core.specs.Linearizable.{Operation as Made, Entry, Invokes, Responds, Hand, Updates, Reads, IsLinearization}
 use Rattle.step_core.specs.queue.Object.{object, answer, full_put}

@@ -30,7 +30,7 @@ use Rattle.queue_machine.specs.Rule.{Kept, putting, seeks_link}
 use Rattle.queue_machine.proofs.Start.{start_kept}
 use Rattle.queue_table.specs.declared.operation.Operation.{Operation}
 use Rattle.queue_table.specs.Lines.{names}
-use Rattle.queue_table.proofs.Laws.{queue as on_table}
+use Rattle.queue_table.specs.Core.{queue as on_table}
 use Rattle.step_core.proofs.queue.Run.{Rule, Story, queue_told}
 use Rattle.running.specs.Acts.{Begins}
 use Rattle.running.specs.Going.{HasRun}

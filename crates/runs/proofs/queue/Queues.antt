@@ -9,8 +9,7 @@ use Rattle.queue_machine.specs.Answers.{shape}
 use Rattle.queue_table.specs.declared.operation.Operation.{Operation}
 use Rattle.queue_table.specs.declared.operation.Operation.TheVariants.{Put as PutFirst, Take as TakeFirst, Close as CloseFirst, Shut as ShutFirst, Look as LookFirst, Len as LenFirst, Gauge as GaugeFirst}
 use Rattle.queue_table.specs.Lines.{names}
-use Rattle.queue_table.specs.Core.{core}
-use Rattle.queue_table.proofs.Laws.{queue as on_table}
+use Rattle.queue_table.specs.Core.{core, queue as on_table}
 use Rattle.step_core.specs.queue.Bound.{MeetsRule}
 use Rattle.step_core.proofs.queue.Run.{run_meets}
 use Rattle.step_core.proofs.queue.Points.{queue_linearizable}

@@ -21,7 +21,7 @@ use Rattle.queue_machine.proofs.Chain.{head_in}
 use Rattle.queue_machine.proofs.Places.{nothing_twice}
 use Rattle.queue_table.specs.Lines.{names}
 use Rattle.queue_table.specs.Memories.{memory_of}
-use Rattle.queue_table.proofs.Laws.{queue}
+use Rattle.queue_table.specs.Core.{queue_with}
 use Rattle.running.specs.Rule.{Rule, line_in, who}
 use Rattle.step_core.specs.queue.Law.{values_left}
 use Rattle.step_core.specs.queue.Object.{object, answer}
@@ -46,13 +46,14 @@ stored n limit m who lines h x =
     ∙ ap (values_in m.home) (sym queued)
     ∙ values_in-is m.home lists.queued values g.filled.stored
 
-pub headline : {T : Type 0} (n limit : ℕ) → 0 < n → n < NULL → 0 < limit → (s : State (Slot T) (View T (Line T))) (r : Rule (queue T n limit) s) → Headline T n limit s r
-headline {T} n limit some_cell small some_tag s r = record {
+pub headline : {T : Type 0} (rule : List (Event T) → Type 0) (n limit : ℕ) → 0 < n → n < NULL → 0 < limit → (s : State (Slot T) (View T (Line T))) (r : Rule (queue_with T n limit rule) s) → Headline T n limit s r
+headline {T} rule n limit some_cell small some_tag s r = record {
   history = queue_history (shape n limit) r.history r.good.good.told.legal refl;
-  hands = hold_at_most (queue T n limit) s r call_at answer (object n limit) 1 few_of (linearizable n limit some_cell small some_tag r.led.acts r.led.allowed);
+  hands = hold_at_most (queue_with T n limit rule) s r call_at answer (object n limit) 1 few_of (linearizable n limit some_cell small some_tag r.led.acts r.led.allowed);
   stored = stored n limit (memory_of s.words s.homes) (who s.views) (map (line_in names) s.views) r.history r.good;
-  seats = one_history (queue T n limit) s r;
+  seats = one_history (queue_with T n limit rule) s r;
   places = nothing_twice r.good.good;
-  led = led_to (queue T n limit) s r;
+  led = led_to (queue_with T n limit rule) s r;
   calls = linearizable n limit some_cell small some_tag r.led.acts r.led.allowed;
+  tied = r.tied;
 }

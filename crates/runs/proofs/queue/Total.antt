@@ -1,5 +1,5 @@
 -- A queue's passes have made no more steps together than their calls cost.
-use Rattle.std.proofs.Common.{◌≡◌, ℕ, suc, ◌+◌, ◌*◌, ◌<◌, ◌≤◌, true, List, [], Ok, Err, sym, ◌∙◌, subst, arith}
+use Rattle.std.proofs.Common.{◌≡◌, ℕ, suc, ◌+◌, ◌*◌, ◌<◌, ◌≤◌, true, List, [], Ok, Err, refl, sym, ◌∙◌, subst, arith}
 use mathlib.Core.Option.{some, some-injective}
 use lib.ListN.{get_elem?}
 use Rattle.tagged_index.specs.declared.word.TheConstants.{NULL}
@@ -20,7 +20,7 @@ use Rattle.queue_machine.specs.Answers.{shape}
 use Rattle.queue_machine.specs.Deeds.{Makes}
 use Rattle.queue_machine.specs.Machine.{Pass, is_idle, queue}
 use Rattle.queue_table.specs.Lines.{reply, answered}
-use Rattle.queue_table.proofs.Laws.{queue as on_table}
+use Rattle.queue_table.specs.Core.{queue as on_table}
 use Rattle.running.specs.Ends.{IsRun}
 use Rattle.runs.specs.Runs.{schedule_of}
 use Rattle.runs.specs.Work.{in_all, is_look, IsPaid}
@@ -72,7 +72,7 @@ module _ {T : Type 0} (n limit : ℕ) (some_cell : 0 < n) (small : n < NULL) (so
       let few : r.given ≤ suc k = omega arith in
       let schedule : Schedule (Call T) = schedule_of call_at ran.acts in
       let once = at_once (queue {T = T} (shape n limit)) r.given (suc k) few schedule (after (queue {T = T} (shape n limit)) r.given []) (passes_after (queue {T = T} (shape n limit)) r.given []) in
-      let paid : IsPaid ran.acts r.works (λ l. cost k (call_at l)) (fee k) (18 + 14 * k) = is_paid (on_table T n limit) (queue (shape n limit)) call_at (running n limit) r left ran sound nobody (cost k) (fee k) (omega arith)
+      let paid : IsPaid ran.acts r.works (λ l. cost k (call_at l)) (fee k) (18 + 14 * k) = is_paid (on_table T n limit) (queue (shape n limit)) call_at (running n limit) (λ p. refl) r left ran sound nobody (cost k) (fee k) (omega arith)
       (λ older low allowed fresh p v call at is idle. worth k r.given (schedule_of call_at older) p v call at is idle) (queue_costs n limit k r.given schedule some_cell small some_tag once) (18 + 14 * k) (fee_small k) in
       let none : in_all is_look ran.acts ≡ 0 = no_looks (on_table T n limit) (queue (shape n limit)) call_at (running n limit) (λ reads. reads) ran.acts ran.proper in
       record {

@@ -12,10 +12,9 @@ use Rattle.ring_machine.specs.Machine.{ends, first_of, cell_of}
 use Rattle.ring_table.specs.declared.line.SeatLine.{SeatLine}
 use Rattle.ring_table.specs.declared.line.SeatLine.TheVariants.{At, Stock}
 use Rattle.ring_table.specs.declared.operation.Operation.{Operation}
-use Rattle.ring_table.specs.Core.{core}
+use Rattle.ring_table.specs.Core.{core, ring_on}
 use Rattle.ring_table.specs.Lines.{call_of}
 use Rattle.ring_table.specs.Seats.{names}
-use Rattle.ring_table.proofs.Laws.{ring_on}
 use Rattle.running.specs.Acts.{Begins, Now, IsFresh, AllFresh, played}
 use Rattle.running.specs.Going.{HasRun}
 use Rattle.step_core.specs.Linearizable.{Operation as Made, Entry, Invokes, Responds, Hand, Updates, Reads, IsLinearization}

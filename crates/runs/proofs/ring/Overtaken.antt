@@ -22,8 +22,7 @@ use Rattle.ring_machine.specs.Answers.{shape}
 use Rattle.ring_table.specs.declared.line.SeatLine.{SeatLine}
 use Rattle.ring_table.specs.declared.line.SeatLine.TheVariants.{At, Stock}
 use Rattle.ring_table.specs.Seats.{names, is_idle, cells_from}
-use Rattle.ring_table.specs.Core.{core}
-use Rattle.ring_table.proofs.Laws.{ring_on}
+use Rattle.ring_table.specs.Core.{core, ring_on}
 use Rattle.ring_table.proofs.Seats.{found}
 use Rattle.running.specs.Acts.{Begins, Course, Now, played, steps_in, IsAllowed, AllProper}
 use Rattle.runs.specs.Runs.{Below, one, schedule_of}

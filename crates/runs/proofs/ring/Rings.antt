@@ -9,8 +9,7 @@ use Rattle.machine.proofs.Stories.{Stays, stays_holds}
 use Rattle.ring_table.specs.declared.line.SeatLine.{SeatLine}
 use Rattle.ring_table.specs.declared.line.SeatLine.TheVariants.{At, Stock}
 use Rattle.ring_table.specs.Seats.{names, cells_from, passes_of}
-use Rattle.ring_table.specs.Core.{core}
-use Rattle.ring_table.proofs.Laws.{ring_on}
+use Rattle.ring_table.specs.Core.{core, ring_on}
 use Rattle.ring_machine.specs.Rule.{Good}
 use Rattle.running.specs.Acts.{Doing, Begins, Steps, Looks, Hears, Now, played, IsAllowed}
 use Rattle.runs.specs.Runs.{Below, one, schedule_of, Shows}

@@ -7,9 +7,8 @@ use Rattle.ring_table.specs.declared.line.SeatLine.TheVariants.{At, Stock}
 use Rattle.ring_table.specs.declared.operation.Operation.{Operation}
 use Rattle.ring_table.specs.declared.operation.Operation.TheVariants.{Put as PutFirst, Take as TakeFirst, Close as CloseFirst, Shut as ShutFirst, Look as LookFirst, Len as LenFirst, Gauge as GaugeFirst}
 use Rattle.ring_table.specs.Seats.{names}
-use Rattle.ring_table.specs.Core.{core}
+use Rattle.ring_table.specs.Core.{core, ring_on}
 use Rattle.ring_table.proofs.Lifted.{does_alike}
-use Rattle.ring_table.proofs.Laws.{ring_on}
 use Rattle.runs.specs.Runs.{IsRunning}
 use Rattle.runs.specs.ring.Machine.{cell_ring, step_at}
 use Rattle.runs.specs.ring.Bounded.{call_at}

@@ -14,7 +14,7 @@ use Rattle.ring_machine.proofs.Places.{nothing_twice}
 use Rattle.ring_table.specs.declared.line.SeatLine.{SeatLine}
 use Rattle.ring_table.specs.Memories.{memory_of}
 use Rattle.ring_table.specs.Seats.{names, passes_of}
-use Rattle.ring_table.proofs.Laws.{ring_on}
+use Rattle.ring_table.specs.Core.{ring_with}
 use Rattle.running.specs.Rule.{Rule, line_in}
 use Rattle.step_core.specs.ring.Law.{Represents}
 use Rattle.step_core.specs.ring.Object.{object}
@@ -45,13 +45,14 @@ stored n laps cells m lines h g = record {
   head = g.head;
 }
 
-pub headline : {T : Type 0} (n laps passes : ℕ) → 0 < n → (s : State (Slot T) (View T (SeatLine T))) (r : Rule (ring_on T n laps passes) s) → Headline T n laps passes s r
-headline {T} n laps passes some_slot s r = record {
+pub headline : {T : Type 0} (rule : List (Event T) → Type 0) (n laps passes : ℕ) → 0 < n → (s : State (Slot T) (View T (SeatLine T))) (r : Rule (ring_with T n laps passes rule) s) → Headline T n laps passes s r
+headline {T} rule n laps passes some_slot s r = record {
   history = queue_history (shape n laps) r.history r.good.told.legal refl;
-  hands = hold_at_most (ring_on T n laps passes) s r call_in answer_at (object n laps) 1 few_of (linearizable n laps passes r.led.acts some_slot r.led.allowed r.led.fresh);
+  hands = hold_at_most (ring_with T n laps passes rule) s r call_in answer_at (object n laps) 1 few_of (linearizable n laps passes r.led.acts some_slot r.led.allowed r.led.fresh);
   stored = stored n laps (n + passes) (memory_of n (n + passes) s.words s.homes) (passes_of (map (line_in names) s.views)) r.history r.good;
-  seats = one_history (ring_on T n laps passes) s r;
+  seats = one_history (ring_with T n laps passes rule) s r;
   places = nothing_twice r.good;
-  led = led_to (ring_on T n laps passes) s r;
+  led = led_to (ring_with T n laps passes rule) s r;
   calls = linearizable n laps passes r.led.acts some_slot r.led.allowed r.led.fresh;
+  tied = r.tied;
 }

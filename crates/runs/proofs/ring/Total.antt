@@ -17,8 +17,7 @@ use Rattle.ring_machine.specs.Machine as ring
 use Rattle.ring_table.specs.declared.line.SeatLine.{SeatLine}
 use Rattle.ring_table.specs.declared.line.SeatLine.TheVariants.{At, Stock}
 use Rattle.ring_table.specs.Seats.{is_idle, cells_from}
-use Rattle.ring_table.specs.Core.{shape_for}
-use Rattle.ring_table.proofs.Laws.{ring_on}
+use Rattle.ring_table.specs.Core.{ring_on, shape_for}
 use Rattle.ring_table.proofs.Seats.{sum_at}
 use Rattle.running.specs.Ends.{IsRun}
 use Rattle.runs.specs.Runs.{Below, schedule_of}
@@ -189,10 +188,10 @@ module _ {T : Type 0} (n laps passes : ℕ) (some_slot : 0 < n) where
 
   pub total_work : (r : RootView T) (left : List T) (ran : IsRun (ring_on T n laps passes) r left) → IsSound (shape_for T n laps passes) r → NoneOut r → TotalWork passes r ran.acts
   total_work r left ran sound nobody =
-      let low : Below r.given ran.acts = below (ring_on T n laps passes) (cell_ring n laps passes) call_at (running n laps passes) r left ran sound nobody in
+      let low : Below r.given ran.acts = below (ring_on T n laps passes) (cell_ring n laps passes) call_at (running n laps passes) (λ p. refl) r left ran sound nobody in
       let k : ℕ = passes - 1 in
       let all : IsPaid ran.acts r.works (λ l. cost k (call_in l)) (fee k) (17 + 24 * k) =
-      is_paid (ring_on T n laps passes) (cell_ring n laps passes) call_at (running n laps passes) r left ran sound nobody (price_of n laps passes k) (fee k) (omega arith)
+      is_paid (ring_on T n laps passes) (cell_ring n laps passes) call_at (running n laps passes) (λ p. refl) r left ran sound nobody (price_of n laps passes k) (fee k) (omega arith)
       (worth n laps passes k some_slot r.given)
       (paid r.given (schedule_of call_at ran.acts) (fresh_all n laps passes r.given ran.acts low ran.allowed ran.fresh)) (17 + 24 * k) (fee_small k) in
       let none : in_all is_look ran.acts ≡ 0 = no_looks (ring_on T n laps passes) (cell_ring n laps passes) call_at (running n laps passes) (λ reads. reads) ran.acts ran.proper in

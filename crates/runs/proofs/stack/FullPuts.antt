@@ -12,9 +12,8 @@ use Rattle.stack_machine.specs.declared.lines.Call.TheVariants.{Put as CallPut, 
 use Rattle.stack_machine.specs.declared.lines.Line.{Line}
 use Rattle.stack_machine.specs.Machine.{ends, starts}
 use Rattle.stack_table.specs.declared.operation.Operation.{Operation}
-use Rattle.stack_table.specs.Core.{core}
+use Rattle.stack_table.specs.Core.{core, stack}
 use Rattle.stack_table.specs.Lines.{call_of, names}
-use Rattle.stack_table.proofs.Laws.{stack}
 use Rattle.running.specs.Going.{HasRun}
 use Rattle.step_core.specs.Linearizable.{Operation as Made, Entry, Invokes, Responds, Hand, Updates, Reads, IsLinearization}
 use Rattle.step_core.specs.stack.Object.{object, answer, full_put}

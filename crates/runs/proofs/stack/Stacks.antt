@@ -12,8 +12,7 @@ use Rattle.stack_machine.specs.Answers.{shape}
 use Rattle.stack_table.specs.declared.operation.Operation.{Operation}
 use Rattle.stack_table.specs.declared.operation.Operation.TheVariants.{Put as PutFirst, Take as TakeFirst, Close as CloseFirst, Shut as ShutFirst, Look as LookFirst, Fold as FoldFirst, Gauge as GaugeFirst}
 use Rattle.stack_table.specs.Lines.{names}
-use Rattle.stack_table.specs.Core.{core}
-use Rattle.stack_table.proofs.Laws.{stack as on_table}
+use Rattle.stack_table.specs.Core.{core, stack as on_table}
 use Rattle.step_core.specs.stack.Bound.{IsSingle}
 use Rattle.step_core.specs.stack.Law.{MeetsRule}
 use Rattle.step_core.proofs.stack.Run.{run_stays}

@@ -17,7 +17,7 @@ use Rattle.stack_machine.specs.Rule.{Kept}
 use Rattle.stack_machine.proofs.Places.{no_node_twice}
 use Rattle.stack_table.specs.Lines.{names}
 use Rattle.stack_table.specs.Memories.{memory_of}
-use Rattle.stack_table.proofs.Laws.{stack as on_table}
+use Rattle.stack_table.specs.Core.{stack_with}
 use Rattle.running.specs.Rule.{Rule, line_in, who}
 use Rattle.runs.proofs.Table.{stack_history, one_history, led_to}
 use Rattle.runs.specs.stack.Headline.{Headline, values_left}
@@ -33,12 +33,13 @@ stored n limit m who lines h x =
     ap (values_in m.home) (chain_from-is m.link n m.top.index stack few never g.linked.top_stands)
     ∙ values_in-is m.home stack (state n limit h).values g.filled.stored
 
-pub headline : {T : Type 0} (n limit : ℕ) → 0 < n → n ≤ NULL → (s : State (Slot T) (View T (Line T))) (r : Rule (on_table T n limit) s) → Headline T n limit s r
-headline {T} n limit some_node small s r = record {
+pub headline : {T : Type 0} (rule : List (Event T) → Type 0) (n limit : ℕ) → 0 < n → n ≤ NULL → (s : State (Slot T) (View T (Line T))) (r : Rule (stack_with T n limit rule) s) → Headline T n limit s r
+headline {T} rule n limit some_node small s r = record {
   history = stack_history (shape n limit) r.history r.good.good.told.legal refl;
   stored = stored n limit (memory_of s.words s.homes) (who s.views) (map (line_in names) s.views) r.history r.good;
-  seats = one_history (on_table T n limit) s r;
+  seats = one_history (stack_with T n limit rule) s r;
   places = no_node_twice r.good.good;
-  led = led_to (on_table T n limit) s r;
+  led = led_to (stack_with T n limit rule) s r;
   calls = linearizable n limit some_node small r.led.acts r.led.allowed;
+  tied = r.tied;
 }

@@ -28,7 +28,7 @@ use Rattle.stack_machine.specs.Answers.{shape}
 use Rattle.stack_machine.specs.Deeds.{Makes}
 use Rattle.stack_machine.specs.Machine.{Pass, is_idle, stack}
 use Rattle.stack_table.specs.Lines.{reply, answered}
-use Rattle.stack_table.proofs.Laws.{stack as on_table}
+use Rattle.stack_table.specs.Core.{stack as on_table}
 use Rattle.running.specs.Ends.{IsRun}
 use Rattle.runs.specs.Runs.{schedule_of}
 use Rattle.runs.specs.Work.{in_all, IsPaid}
@@ -167,14 +167,14 @@ module _ {T : Type 0} (n limit : ℕ) (some_node : 0 < n) (small : n ≤ NULL) w
     spent = stack_costs n limit some_node k r.given schedule small (at_once (stack {T = T} (shape n limit)) r.given (suc k) few schedule (after (stack {T = T} (shape n limit)) r.given []) (passes_after (stack {T = T} (shape n limit)) r.given []))
 
     prices_of : (price : Call T → ℕ) → calls_cost (stack (shape n limit)) price schedule (start (stack (shape n limit)) r.given) ≡ in_all (priced (λ l. price (call_at l))) ran.acts
-    prices_of price = all_costs (on_table T n limit) (stack (shape n limit)) call_at (running n limit) price r.given ran.acts (below (on_table T n limit) (stack (shape n limit)) call_at (running n limit) r left ran sound nobody) ran.allowed ran.proper
+    prices_of price = all_costs (on_table T n limit) (stack (shape n limit)) call_at (running n limit) price r.given ran.acts (below (on_table T n limit) (stack (shape n limit)) call_at (running n limit) (λ p. refl) r left ran sound nobody) ran.allowed ran.proper
 
     paid : IsPaid ran.acts r.works (λ l. cost n k (call_at l)) (fee n k) (4 * n + 4 + (3 * n + 4) * k)
-    paid = is_paid (on_table T n limit) (stack (shape n limit)) call_at (running n limit) r left ran sound nobody (cost n k) (fee n k) (omega arith)
+    paid = is_paid (on_table T n limit) (stack (shape n limit)) call_at (running n limit) (λ p. refl) r left ran sound nobody (cost n k) (fee n k) (omega arith)
         (λ older low allowed fresh. worth (cost n k) (fee n k) (worth_answer n k some_node) r.given (schedule_of call_at older)) spent (4 * n + 4 + (3 * n + 4) * k) (fee_small n k some_node)
 
     singly_paid : Every (λ a. BeginsSingle a.1) ran.acts → IsPaid ran.acts r.works (λ l. single_cost n k some_node (call_at l)) (single_fee k) (7 + 7 * k)
-    singly_paid all = is_paid (on_table T n limit) (stack (shape n limit)) call_at (running n limit) r left ran sound nobody (single_cost n k some_node) (single_fee k) (omega arith)
+    singly_paid all = is_paid (on_table T n limit) (stack (shape n limit)) call_at (running n limit) (λ p. refl) r left ran sound nobody (single_cost n k some_node) (single_fee k) (omega arith)
         (λ older low allowed fresh. worth (single_cost n k some_node) (single_fee k) (single_worth_answer n k some_node) r.given (schedule_of call_at older))
         (omega (arith, spent, prices_of (cost n k), prices_of (single_cost n k some_node), single_prices n k some_node ran.acts all)) (7 + 7 * k) (single_fee_small n k some_node)
 

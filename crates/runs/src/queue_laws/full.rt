@@ -11,9 +11,8 @@ ghost use Rattle.queue_machine.specs.declared.lines.Call.TheVariants.{Put as Cal
 ghost use Rattle.queue_machine.specs.declared.lines.Line.{Line};
 ghost use Rattle.queue_machine.specs.Machine.{ends};
 ghost use Rattle.queue_table.specs.declared.operation.Operation.{Operation};
-ghost use Rattle.queue_table.specs.Core.{core};
+ghost use Rattle.queue_table.specs.Core.{core, queue};
 ghost use Rattle.queue_table.specs.Lines.{call_of, names};
-ghost use Rattle.queue_table.proofs.Laws.{queue};
 ghost use Rattle.running.specs.Going.{HasRun};
 ghost use Rattle.step_core.specs.queue.Object.{object, answer};
 ghost use Rattle.runs.specs.Heard.{heard, IsLinearizable};

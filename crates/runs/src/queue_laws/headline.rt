@@ -8,13 +8,14 @@ ghost use Rattle.machine.specs.declared.seats.View.{View};
 ghost use Rattle.queue_machine.specs.declared.lines.Line.{Line};
 ghost use Rattle.queue_machine.specs.Machine.{Memory};
 ghost use Rattle.queue_table.specs.Lines.{names};
-ghost use Rattle.queue_table.specs.Core.{core};
-ghost use Rattle.queue_table.proofs.Laws.{queue};
+ghost use Rattle.queue_table.specs.Core.{core, queue, queue_with};
 ghost use Rattle.running.specs.Acts.{HasDone};
 ghost use Rattle.running.specs.Rule.{Rule};
 ghost use Rattle.runs.specs.Table.{LedTo};
 ghost use Rattle.runs.specs.queue.Headline.{Headline};
 ghost use Rattle.runs.specs.queue.WrongActs.{idle_step, hearing_in_a_look, one_look};
+
+use running::Tie;
 
 /// All passes of a queue see one history of one bounded queue. This holds in any table that meets
 /// the rule of a queue, as each queue's does between any two atomic steps of any threads:
@@ -30,6 +31,13 @@ ghost use Rattle.runs.specs.queue.WrongActs.{idle_step, hearing_in_a_look, one_l
 pub fn queue_headline<T>()
     ensures { (n limit : ℕ) → 0 < n → n < NULL → 0 < limit
         → (s : State (Slot T) (View T (Line T))) (r : Rule (queue T n limit) s)
+        → Headline T n limit s r }
+{}
+
+/// The same of a queue whose client has given it a rule: its history keeps that rule too.
+pub fn queue_headline_as<T, D: Tie<T>>()
+    ensures { (n limit : ℕ) → 0 < n → n < NULL → 0 < limit
+        → (s : State (Slot T) (View T (Line T))) (r : Rule (queue_with T n limit D.rule) s)
         → Headline T n limit s r }
 {}
 

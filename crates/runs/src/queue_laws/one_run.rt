@@ -4,7 +4,7 @@ ghost use Rattle.tagged_index.specs.declared.word.TheConstants.{NULL};
 ghost use Rattle.bounded_model.specs.declared.views.RootView.{RootView};
 ghost use Rattle.machine.specs.Seats.{Acts};
 ghost use Rattle.queue_machine.specs.declared.lines.Line.{Line};
-ghost use Rattle.queue_table.proofs.Laws.{queue};
+ghost use Rattle.queue_table.specs.Core.{queue};
 ghost use Rattle.step_core.specs.queue.Object.{object, answer};
 ghost use Rattle.runs.specs.queue.Bounded.{call_at};
 ghost use Rattle.running.specs.Ends.{IsRunAfter};

@@ -4,7 +4,7 @@ ghost use Rattle.tagged_index.specs.declared.word.TheConstants.{NULL};
 ghost use Rattle.bounded_model.specs.Laws.{IsSound, NoneOut};
 ghost use Rattle.bounded_model.specs.declared.views.RootView.{RootView};
 ghost use Rattle.queue_machine.specs.Answers.{shape};
-ghost use Rattle.queue_table.proofs.Laws.{queue};
+ghost use Rattle.queue_table.specs.Core.{queue};
 ghost use Rattle.running.specs.Ends.{IsRun};
 ghost use Rattle.runs.specs.queue.Work.{TotalWork};
 

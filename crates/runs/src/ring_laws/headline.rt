@@ -3,9 +3,11 @@ ghost use Rattle.std.specs.Prelude.{ℕ, ◌<◌, Option as Slot};
 ghost use Rattle.atomic_table.specs.Table.{State};
 ghost use Rattle.machine.specs.declared.seats.View.{View};
 ghost use Rattle.ring_table.specs.declared.line.SeatLine.{SeatLine};
-ghost use Rattle.ring_table.proofs.Laws.{ring_on};
+ghost use Rattle.ring_table.specs.Core.{ring_on, ring_with};
 ghost use Rattle.running.specs.Rule.{Rule};
 ghost use Rattle.runs.specs.ring.Headline.{Headline};
+
+use running::Tie;
 
 /// All passes of a ring see one history of one bounded queue. This holds in any table that meets
 /// the rule of a ring, as each ring's does between any two atomic steps of any threads:
@@ -21,5 +23,12 @@ ghost use Rattle.runs.specs.ring.Headline.{Headline};
 pub fn ring_headline<T>()
     ensures { (n laps passes : ℕ) → 0 < n
         → (s : State (Slot T) (View T (SeatLine T))) (r : Rule (ring_on T n laps passes) s)
+        → Headline T n laps passes s r }
+{}
+
+/// The same of a ring whose client has given it a rule: its history keeps that rule too.
+pub fn ring_headline_as<T, D: Tie<T>>()
+    ensures { (n laps passes : ℕ) → 0 < n
+        → (s : State (Slot T) (View T (SeatLine T))) (r : Rule (ring_with T n laps passes D.rule) s)
         → Headline T n laps passes s r }
 {}

@@ -3,7 +3,7 @@ ghost use Rattle.std.specs.Prelude.{ℕ, List, ◌<◌};
 ghost use Rattle.bounded_model.specs.declared.views.RootView.{RootView};
 ghost use Rattle.machine.specs.Seats.{Acts};
 ghost use Rattle.ring_table.specs.declared.line.SeatLine.{SeatLine};
-ghost use Rattle.ring_table.proofs.Laws.{ring_on};
+ghost use Rattle.ring_table.specs.Core.{ring_on};
 ghost use Rattle.step_core.specs.ring.Object.{object};
 ghost use Rattle.runs.specs.ring.Bounded.{call_in};
 ghost use Rattle.runs.specs.ring.Linearizable.{answer_at};

@@ -2,8 +2,7 @@
 ghost use Rattle.std.specs.Prelude.{ℕ, ◌<◌, List};
 ghost use Rattle.bounded_model.specs.Laws.{IsSound, NoneOut};
 ghost use Rattle.bounded_model.specs.declared.views.RootView.{RootView};
-ghost use Rattle.ring_table.specs.Core.{shape_for};
-ghost use Rattle.ring_table.proofs.Laws.{ring_on};
+ghost use Rattle.ring_table.specs.Core.{ring_on, shape_for};
 ghost use Rattle.running.specs.Ends.{IsRun};
 ghost use Rattle.runs.specs.ring.Work.{TotalWork};
 

@@ -11,9 +11,8 @@ ghost use Rattle.stack_machine.specs.declared.lines.Call.TheVariants.{Put as Cal
 ghost use Rattle.stack_machine.specs.declared.lines.Line.{Line};
 ghost use Rattle.stack_machine.specs.Machine.{ends};
 ghost use Rattle.stack_table.specs.declared.operation.Operation.{Operation};
-ghost use Rattle.stack_table.specs.Core.{core};
+ghost use Rattle.stack_table.specs.Core.{core, stack};
 ghost use Rattle.stack_table.specs.Lines.{call_of, names};
-ghost use Rattle.stack_table.proofs.Laws.{stack};
 ghost use Rattle.running.specs.Going.{HasRun};
 ghost use Rattle.step_core.specs.stack.Object.{object, answer};
 ghost use Rattle.runs.specs.Heard.{heard, IsLinearizable};

@@ -4,9 +4,11 @@ ghost use Rattle.tagged_index.specs.declared.word.TheConstants.{NULL};
 ghost use Rattle.atomic_table.specs.Table.{State};
 ghost use Rattle.machine.specs.declared.seats.View.{View};
 ghost use Rattle.stack_machine.specs.declared.lines.Line.{Line};
-ghost use Rattle.stack_table.proofs.Laws.{stack};
+ghost use Rattle.stack_table.specs.Core.{stack, stack_with};
 ghost use Rattle.running.specs.Rule.{Rule};
 ghost use Rattle.runs.specs.stack.Headline.{Headline};
+
+use running::Tie;
 
 /// All passes of a stack see one history of one bounded stack. This holds in any table that meets
 /// the rule of a stack, as each stack's does between any two atomic steps of any threads:
@@ -21,5 +23,12 @@ ghost use Rattle.runs.specs.stack.Headline.{Headline};
 pub fn stack_headline<T>()
     ensures { (n limit : ℕ) → 0 < n → n ≤ NULL
         → (s : State (Slot T) (View T (Line T))) (r : Rule (stack T n limit) s)
+        → Headline T n limit s r }
+{}
+
+/// The same of a stack whose client has given it a rule: its history keeps that rule too.
+pub fn stack_headline_as<T, D: Tie<T>>()
+    ensures { (n limit : ℕ) → 0 < n → n ≤ NULL
+        → (s : State (Slot T) (View T (Line T))) (r : Rule (stack_with T n limit D.rule) s)
         → Headline T n limit s r }
 {}

@@ -4,7 +4,7 @@ ghost use Rattle.tagged_index.specs.declared.word.TheConstants.{NULL};
 ghost use Rattle.bounded_model.specs.declared.views.RootView.{RootView};
 ghost use Rattle.machine.specs.Seats.{Acts};
 ghost use Rattle.stack_machine.specs.declared.lines.Line.{Line};
-ghost use Rattle.stack_table.proofs.Laws.{stack};
+ghost use Rattle.stack_table.specs.Core.{stack};
 ghost use Rattle.step_core.specs.stack.Object.{object, answer};
 ghost use Rattle.runs.specs.stack.Bounded.{call_at};
 ghost use Rattle.running.specs.Ends.{IsRunAfter};

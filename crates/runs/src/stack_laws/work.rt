@@ -4,7 +4,7 @@ ghost use Rattle.tagged_index.specs.declared.word.TheConstants.{NULL};
 ghost use Rattle.bounded_model.specs.Laws.{IsSound, NoneOut};
 ghost use Rattle.bounded_model.specs.declared.views.RootView.{RootView};
 ghost use Rattle.stack_machine.specs.Answers.{shape};
-ghost use Rattle.stack_table.proofs.Laws.{stack};
+ghost use Rattle.stack_table.specs.Core.{stack};
 ghost use Rattle.running.specs.Ends.{IsRun};
 ghost use Rattle.runs.specs.stack.Work.{TotalWork};
 

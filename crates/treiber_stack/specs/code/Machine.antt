@@ -1,14 +1,19 @@
 -- The machine of a stack with these limits, which of its operations makes a call, and what an operation has answered.
-use Rattle.std.specs.Prelude.{◌≡◌}
+use Rattle.std.specs.Prelude.{◌≡◌, List}
 use Rattle.running.specs.Machine.{Machine}
+pub use Rattle.running.specs.Ties.{no_rule}
 use Rattle.stack_table.specs.declared.operation.Listed.TheVariants.{End}
 use Rattle.stack_table.specs.declared.operation.Operation.TheVariants.{Put as PutFirst}
 use Rattle.running.specs.declared.kept.Answered as answers
-use Rattle.treiber_stack.specs.Prelude.{Close, CloseFirst, Command, Limits, Line, Look, LookFirst, Operation, Put, Shape, Shut, ShutFirst, Take}
-use Rattle.treiber_stack.specs.Prelude.{TakeFirst, capacity_of, names, shape, stack, tag_limit_of}
+use Rattle.treiber_stack.specs.Prelude.{Close, CloseFirst, Command, Event, Limits, Line, Look, LookFirst, Operation, Put, Shape, Shut, ShutFirst}
+use Rattle.treiber_stack.specs.Prelude.{Take, TakeFirst, capacity_of, names, shape, stack_with, tag_limit_of}
+
+-- for a client with this rule, and for one with none
+abbrev pub machine_for : {T : Type 0} → (List (Event T) → Type 0) → Limits → Machine T (Line T) (Operation T) names
+machine_for {T} rule k = stack_with T (capacity_of k) (tag_limit_of k) rule
 
 abbrev pub machine_at : {T : Type 0} → Limits → Machine T (Line T) (Operation T) names
-machine_at {T} k = stack T (capacity_of k) (tag_limit_of k)
+machine_at k = machine_for no_rule k
 
 abbrev pub shape_at : Limits → Shape
 shape_at k = shape (capacity_of k) (tag_limit_of k)

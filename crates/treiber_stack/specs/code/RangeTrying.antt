@@ -3,13 +3,14 @@ use Rattle.std.specs.Prelude.{Bool, true, false, ◌≡◌, ℕ, Result, Ok, Err
 use Rattle.bounded_model.specs.declared.answers.Stepped.TheVariants.{Done}
 use Rattle.running.specs.Passes as passes
 use Rattle.running.specs.declared.passes.Pass as runs
-use Rattle.treiber_stack.specs.Prelude.{Again, Line, MatchStepped, Op, Operation, PassView, RangeRefused, Ranged, Stepped}
+use Rattle.treiber_stack.specs.Prelude.{Again, Event, Line, MatchStepped, Op, Operation, PassView, RangeRefused, Ranged, Stepped}
 use Rattle.treiber_stack.specs.declared.bulk.range_steps.RangeState.{RangeState}
 use Rattle.treiber_stack.specs.declared.bulk.range_steps.RangeAt.{RangeAt}
 use Rattle.treiber_stack.specs.declared.bulk.range_steps.RangeAt.TheVariants.{GiveBack}
 use Rattle.treiber_stack.specs.declared.bulk.range_steps.Held.{Held}
-use Rattle.treiber_stack.specs.Calls.{Pass, pass_in, Stack, begun_of, IsRange}
-use Rattle.treiber_stack.specs.code.Ranging.{HasNodes, IsRangeAt, putting, takes, StopsSo, PutsOf, places_from}
+use Rattle.treiber_stack.specs.Calls.{Pass, pass_in, Stack, StackWith, begun_with, IsRange}
+use Rattle.treiber_stack.specs.code.Machine.{no_rule}
+use Rattle.treiber_stack.specs.code.Ranging.{HasNodes, IsRangeAtWith, putting, takes, StopsSo, PutsOf, places_from}
 use Rattle.treiber_stack.specs.declared.bulk.range_steps.RangeStop.{RangeStop}
 
 abbrev pub RangeOp : Type 0 → Type 0
@@ -67,12 +68,12 @@ module _ {T : Type 0} where
   abbrev pub MadeAtMost : ℕ → ℕ → PassView T → PassView T → Type 0
   MadeAtMost n len v w = w.steps ≤ v.steps + (len * (n + 2) + 2 * n)
 
-module _ {T : Type 0} (c : Stack T) (o : Operation T) where
+module _ {T : Type 0} (rule : List (Event T) → Type 0) {D : Type 0} (c : StackWith T D) (o : Operation T) where
   -- a range of these values is at this; if it takes a node, there is a value for it
   pub record IsRangeOf (p : runs.Pass T (Line T)) (vs : List T) (held : Held) (at : RangeAt) : Type 0 where
     pub chain : List ℕ
     pub has : HasNodes c vs chain held
-    pub is : IsRangeAt c o p (putting vs chain) held at
+    pub is : IsRangeAtWith rule c o p (putting vs chain) held at
     pub wants : takes at ≡ true → held.count < length vs
 
   -- it was at this, begun as the pass was v, and has stopped
@@ -80,24 +81,28 @@ module _ {T : Type 0} (c : Stack T) (o : Operation T) where
     pub chain : List ℕ
     pub has : HasNodes c vs chain held
     pub wants : takes at ≡ true → held.count < length vs
-    pub stops : StopsSo c o v p (putting vs chain) held at stop
+    pub stops : StopsSo rule c o v p (putting vs chain) held at stop
 
   -- some steps led it on
   abbrev pub RanOn : runs.Pass T (Line T) → List T → Held → RangeAt → runs.Pass T (Line T) → RangeAt → Type 0
-  RanOn p vs held at q at' = IsRangeOf q vs held at' × (begun_of c q ≡ begun_of c p) × (gives_back at' ≡ gives_back at)
+  RanOn p vs held at q at' = IsRangeOf q vs held at' × (begun_with rule c q ≡ begun_with rule c p) × (gives_back at' ≡ gives_back at)
 
-module _ {T : Type 0} (c : Stack T) where
+module _ {T : Type 0} (rule : List (Event T) → Type 0) {D : Type 0} (c : StackWith T D) where
   -- a put of these values is under way
-  pub record IsRangeOp (vs : List T) (op : RangeOp T) : Type 0 where
+  pub record IsRangeOpWith (vs : List T) (op : RangeOp T) : Type 0 where
     pub of : IsRange op.operation vs
-    pub at : IsRangeOf c op.operation op.pass vs op.at.held op.at.at
+    pub at : IsRangeOf rule c op.operation op.pass vs op.at.held op.at.at
 
   -- begun as the pass was v, it is under way, or gave what the whole put gives
   abbrev pub RangeCame : List T → PassView T → Stepped (RangeOp T) (Pass T) (Result Ranged RangeRefused) → Type 0
   RangeCame vs v made = MatchStepped made
-      (λ next. IsRangeOp vs next × (begun_of c next.pass ≡ v))
-      (λ back answer. PutsOf c v vs (places_from (put_of answer) vs) back answer)
+      (λ next. IsRangeOpWith vs next × (begun_with rule c next.pass ≡ v))
+      (λ back answer. PutsOf rule c v vs (places_from (put_of answer) vs) back answer)
 
   -- it was begun, and has made no step
   abbrev pub RangeStarts : List T → PassView T → Stepped (RangeOp T) (Pass T) (Result Ranged RangeRefused) → Type 0
   RangeStarts vs v made = RangeCame vs v made × (left_after made ≡ 0) × MatchStepped made (λ next. passes.pass_in next.pass ≡ v) (λ back answer. pass_in back ≡ v)
+
+-- of a stack with no rule
+abbrev pub IsRangeOp : {T : Type 0} → Stack T → List T → RangeOp T → Type 0
+IsRangeOp c vs op = IsRangeOpWith no_rule c vs op

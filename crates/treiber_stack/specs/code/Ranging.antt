@@ -5,10 +5,10 @@ use Rattle.bounded_model.specs.Justified as right
 use Rattle.stack_machine.specs.Machine.{placed}
 use Rattle.running.specs.declared.passes.Pass as runs
 use Rattle.running.specs.Passes as passes
-use Rattle.treiber_stack.specs.Prelude.{Account, Adds, AnswerPut, BacksOut, Closed, Ended, FreeWord, Full, Giving, Limits, Line, LinkTaken, LinkToTop}
-use Rattle.treiber_stack.specs.Prelude.{LoadFreeLine, LoadFreeLink, LoadFreeToGive, LoadTop, LoadTopToRefuse, NULL, Nothing, Operation, PassView}
-use Rattle.treiber_stack.specs.Prelude.{PutFull, PutSpent, PutsRange, Putting, RangeAnswers, RangeRefused, Ranged, Shape, Spent, SwapTop, TakeFree}
-use Rattle.treiber_stack.specs.Prelude.{View, capacity_of, ends, fields_of, first, full, index_of, is_idle, last, line_in, names, next_node}
+use Rattle.treiber_stack.specs.Prelude.{Account, Adds, AnswerPut, BacksOut, Closed, Ended, Event, FreeWord, Full, Giving, Limits, Line, LinkTaken}
+use Rattle.treiber_stack.specs.Prelude.{LinkToTop, LoadFreeLine, LoadFreeLink, LoadFreeToGive, LoadTop, LoadTopToRefuse, NULL, Nothing, Operation}
+use Rattle.treiber_stack.specs.Prelude.{PassView, PutFull, PutSpent, PutsRange, Putting, RangeAnswers, RangeRefused, Ranged, Shape, Spent, SwapTop}
+use Rattle.treiber_stack.specs.Prelude.{TakeFree, View, capacity_of, ends, fields_of, first, full, index_of, is_idle, last, line_in, names, next_node}
 use Rattle.treiber_stack.specs.Prelude.{tag_limit_of, tag_of, times, unplaced, vacant, with_node}
 use Rattle.treiber_stack.specs.declared.bulk.range_steps.RangeAt.{RangeAt}
 use Rattle.treiber_stack.specs.declared.bulk.range_steps.RangeAt.TheVariants.{LoadFree, Link, Hold, GiveBack, Load, LinkTo, Exchange, Refuse}
@@ -19,12 +19,13 @@ use Rattle.treiber_stack.specs.declared.bulk.range_steps.RangeStop.TheVariants.{
 use Rattle.treiber_stack.specs.declared.code.refusing.Barred.{Barred}
 use Rattle.treiber_stack.specs.code.Refusing.{barring}
 use Rattle.treiber_stack.specs.declared.bulk.range_steps.Held.{Held}
-use Rattle.treiber_stack.specs.Calls.{Stack, room_of, limit_of, begun_of, machine_of, WasRange, Pass, shape_of, pass_in, IsPassOf}
+use Rattle.treiber_stack.specs.Calls.{Stack, StackWith, room_of, limit_of, begun_with, machine_with, WasRangeWith, Pass, shape_of, pass_in, IsPassWith}
 use Rattle.treiber_stack.specs.code.Giving.{give_line, AreNodes}
 use Rattle.treiber_stack.specs.declared.bulk.range_steps.Range.{Range}
 use Rattle.treiber_stack.specs.code.Begun.{put_begun}
 use Rattle.treiber_stack.specs.declared.bulk.range_steps.RangeStopped.{RangeStopped}
-use Rattle.treiber_stack.specs.code.Steps.{IsAt, IsSeatOf, IsGiving}
+use Rattle.treiber_stack.specs.code.Steps.{IsAtWith, IsSeatWith, IsGiving}
+use Rattle.treiber_stack.specs.code.Machine.{no_rule}
 use Rattle.treiber_stack.specs.declared.code.giving.Give.TheVariants.{Load as LoadToGive}
 
 -- why a range that is not empty was refused, and what the pass has done
@@ -74,7 +75,7 @@ module _ {T : Type 0} where
     pub begins : first chain ≡ held.chain.first
     pub ends : last chain ≡ held.chain.last
 
-  abbrev pub HasNodes : Stack T → List T → List ℕ → Held → Type 0
+  abbrev pub HasNodes : {D : Type 0} → StackWith T D → List T → List ℕ → Held → Type 0
   HasNodes c vs chain held = HasNodesBelow (room_of c) vs chain held
 
   -- the machine's line of a state, its slots in hand, and what is known of what it has read and holds
@@ -103,7 +104,7 @@ module _ {T : Type 0} where
   HasReadFor n limit put held Refuse = held.count ≡ 0
   HasReadFor n limit put held (GiveBack why at) = AreNodes n put.chain held.chain
 
-  abbrev pub HasRead : Stack T → Putting T → Held → RangeAt → Type 0
+  abbrev pub HasRead : {D : Type 0} → StackWith T D → Putting T → Held → RangeAt → Type 0
   HasRead c put held at = HasReadFor (room_of c) (limit_of c) put held at
 
   -- and where it stops
@@ -139,7 +140,7 @@ module _ {T : Type 0} where
   abbrev pub stop_hand : RangeStopped T → List (ℕ × Slot T)
   stop_hand r = range_hand (put_begun r.begun) r.stop
 
-  abbrev pub StopTold : Stack T → Range T → RangeStopped T → Type 0
+  abbrev pub StopTold : {D : Type 0} → StackWith T D → Range T → RangeStopped T → Type 0
   StopTold c s r = (r.begun ≡ s.begun) × Told (room_of c) s.held.count s.at r.stop
 
   -- how it is read
@@ -155,30 +156,34 @@ module _ {T : Type 0} where
   }
 
   -- a range is at this
-  pub record IsRangeAt (c : Stack T) (o : Operation T) (p : runs.Pass T (Line T)) (put : Putting T) (held : Held) (at : RangeAt) : Type 0 where
-    pub line : IsAt c o p (range_line put at) (range_slots put at)
+  pub record IsRangeAtWith (rule : List (Event T) → Type 0) {D : Type 0} (c : StackWith T D) (o : Operation T) (p : runs.Pass T (Line T)) (put : Putting T) (held : Held) (at : RangeAt) : Type 0 where
+    pub line : IsAtWith rule c o p (range_line put at) (range_slots put at)
     pub read : HasRead c put held at
+
+  -- in a stack with no rule
+  abbrev pub IsRangeAt : Stack T → Operation T → runs.Pass T (Line T) → Putting T → Held → RangeAt → Type 0
+  IsRangeAt c o p put held at = IsRangeAtWith no_rule c o p put held at
 
   -- a node was taken; it is linked to the one before it, if there is one
   abbrev pub linking : List ℕ → Putting T → Line T
   linking [] put = next_node put
   linking (j ∷ js) put = LinkTaken put
 
-  pub record TakesNode (c : Stack T) (o : Operation T) (begun : PassView T) (put : Putting T) (q : runs.Pass T (Line T)) (i : ℕ) : Type 0 where
-    pub at : IsAt c o q (linking put.chain (with_node put i)) ((i, None) ∷ loaded put)
+  pub record TakesNode (rule : List (Event T) → Type 0) {D : Type 0} (c : StackWith T D) (o : Operation T) (begun : PassView T) (put : Putting T) (q : runs.Pass T (Line T)) (i : ℕ) : Type 0 where
+    pub at : IsAtWith rule c o q (linking put.chain (with_node put i)) ((i, None) ∷ loaded put)
     pub low : i < room_of c
-    pub begun_is : begun_of c q ≡ begun
+    pub begun_is : begun_with rule c q ≡ begun
 
   -- it has stopped at this line, by whether its machine has answered
-  abbrev pub Stopped : Stack T → Operation T → PassView T → runs.Pass T (Line T) → Line T → List (ℕ × Slot T) → Bool → Type 0
-  Stopped c o begun q l rest true = IsSeatOf c q × Ended (machine_of c) o q.seat.me.0 begun l
-  Stopped c o begun q l rest false = IsAt c o q l rest × (begun_of c q ≡ begun)
+  abbrev pub Stopped : (List (Event T) → Type 0) → {D : Type 0} → StackWith T D → Operation T → PassView T → runs.Pass T (Line T) → Line T → List (ℕ × Slot T) → Bool → Type 0
+  Stopped rule c o begun q l rest true = IsSeatWith rule c q × Ended (machine_with rule c) o q.seat.me.0 begun l
+  Stopped rule c o begun q l rest false = IsAtWith rule c o q l rest × (begun_with rule c q ≡ begun)
 
-  abbrev pub StopsSo : Stack T → Operation T → PassView T → runs.Pass T (Line T) → Putting T → Held → RangeAt → RangeStop → Type 0
-  StopsSo c o begun q put held at stop = Told (room_of c) held.count at stop × Stopped c o begun q (range_stop put stop) (range_hand put stop) (is_idle (range_stop put stop))
+  abbrev pub StopsSo : (List (Event T) → Type 0) → {D : Type 0} → StackWith T D → Operation T → PassView T → runs.Pass T (Line T) → Putting T → Held → RangeAt → RangeStop → Type 0
+  StopsSo rule c o begun q put held at stop = Told (room_of c) held.count at stop × Stopped rule c o begun q (range_stop put stop) (range_hand put stop) (is_idle (range_stop put stop))
 
-  abbrev pub EndsSo : Stack T → Operation T → PassView T → runs.Pass T (Line T) → Putting T → Held → RangeEnd → Type 0
-  EndsSo c o begun q put held end = ToldEnd held.count end × Stopped c o begun q (end_line put end) (loaded put) (is_idle (end_line put end))
+  abbrev pub EndsSo : (List (Event T) → Type 0) → {D : Type 0} → StackWith T D → Operation T → PassView T → runs.Pass T (Line T) → Putting T → Held → RangeEnd → Type 0
+  EndsSo rule c o begun q put held end = ToldEnd held.count end × Stopped rule c o begun q (end_line put end) (loaded put) (is_idle (end_line put end))
 
   -- the places once the first k values have left
   abbrev pub places_from : ℕ → List T → List (Slot T)
@@ -198,40 +203,40 @@ module _ {T : Type 0} where
   putting vs chain = record { values = vs; chain = chain }
 
   -- the put continues with the next value, or with the top
-  pub record IsFilling (c : Stack T) (o : Operation T) (p : runs.Pass T (Line T)) (vs : List T) (held : Held) : Type 0 where
+  pub record IsFilling (rule : List (Event T) → Type 0) {D : Type 0} (c : StackWith T D) (o : Operation T) (p : runs.Pass T (Line T)) (vs : List T) (held : Held) : Type 0 where
     pub chain : List ℕ
     pub has : HasNodes c vs chain held
-    pub at : IsAt c o p (next_node (putting vs chain)) (loaded (putting vs chain))
+    pub at : IsAtWith rule c o p (next_node (putting vs chain)) (loaded (putting vs chain))
 
   -- a node was taken for the next value
-  pub record HasTaken (c : Stack T) (o : Operation T) (p : runs.Pass T (Line T)) (vs : List T) (held : Held) (i : ℕ) : Type 0 where
+  pub record HasTaken (rule : List (Event T) → Type 0) {D : Type 0} (c : StackWith T D) (o : Operation T) (p : runs.Pass T (Line T)) (vs : List T) (held : Held) (i : ℕ) : Type 0 where
     pub chain : List ℕ
     pub has : HasNodes c vs chain held
-    pub takes : TakesNode c o (begun_of c p) (putting vs chain) p i
+    pub takes : TakesNode rule c o (begun_with rule c p) (putting vs chain) p i
 
   -- it has the value; the link to the node before it is a step
-  abbrev pub FillsOne : Stack T → Operation T → runs.Pass T (Line T) → List T → Held → runs.Pass T (Line T) → Held → Type 0
-  FillsOne c o p vs held q more = IsFilling c o q vs more × (more.count ≡ held.count + 1) × (begun_of c q ≡ begun_of c p) × ((passes.pass_in q).steps ≤ (passes.pass_in p).steps + 1)
+  abbrev pub FillsOne : (List (Event T) → Type 0) → {D : Type 0} → StackWith T D → Operation T → runs.Pass T (Line T) → List T → Held → runs.Pass T (Line T) → Held → Type 0
+  FillsOne rule c o p vs held q more = IsFilling rule c o q vs more × (more.count ≡ held.count + 1) × (begun_with rule c q ≡ begun_with rule c p) × ((passes.pass_in q).steps ≤ (passes.pass_in p).steps + 1)
 
   -- a range is over, with nodes for the first values
-  pub record IsOver (c : Stack T) (o : Operation T) (v : PassView T) (p : runs.Pass T (Line T)) (vs : List T) (held : Held) (end : RangeEnd) : Type 0 where
+  pub record IsOver (rule : List (Event T) → Type 0) {D : Type 0} (c : StackWith T D) (o : Operation T) (v : PassView T) (p : runs.Pass T (Line T)) (vs : List T) (held : Held) (end : RangeEnd) : Type 0 where
     pub chain : List ℕ
     pub has : HasNodes c vs chain held
-    pub ends : EndsSo c o v p (putting vs chain) held end
+    pub ends : EndsSo rule c o v p (putting vs chain) held end
 
   -- a range of these values, begun as the pass was v, has ended
-  abbrev pub PutsOf : Stack T → PassView T → List T → List (Slot T) → Pass T → Result Ranged RangeRefused → Type 0
-  PutsOf c v vs places q r = IsPassOf c q × PutsRange (record { shape = shape_of c; from = v; to = pass_in q }) (map Some vs) places r × RangeAnswers vs r v (pass_in q) × WasRange c v vs r q
+  abbrev pub PutsOf : (List (Event T) → Type 0) → {D : Type 0} → StackWith T D → PassView T → List T → List (Slot T) → Pass T → Result Ranged RangeRefused → Type 0
+  PutsOf rule c v vs places q r = IsPassWith rule c q × PutsRange (record { shape = shape_of c; from = v; to = pass_in q }) (map Some vs) places r × RangeAnswers vs r v (pass_in q) × WasRangeWith rule c v vs r q
 
   -- a refused range whose values are still in the slots
-  pub record IsRefused (c : Stack T) (o : Operation T) (p : runs.Pass T (Line T)) (vs : List T) (held : Held) (why : Barred) : Type 0 where
+  pub record IsRefused (rule : List (Event T) → Type 0) {D : Type 0} (c : StackWith T D) (o : Operation T) (p : runs.Pass T (Line T)) (vs : List T) (held : Held) (why : Barred) : Type 0 where
     pub chain : List ℕ
     pub has : HasNodes c vs chain held
     pub some_node : 0 < held.count
-    pub at : IsAt c o p (LoadFreeToGive (refused (putting vs chain) why)) (loaded (putting vs chain))
+    pub at : IsAtWith rule c o p (LoadFreeToGive (refused (putting vs chain) why)) (loaded (putting vs chain))
 
   -- the values of a refused range come out of its nodes, the last first
-  pub record IsRestoring (c : Stack T) (o : Operation T) (p : runs.Pass T (Line T)) (vs : List T) (held : Held) (why : Barred) (moved index : ℕ) : Type 0 where
+  pub record IsRestoring (rule : List (Event T) → Type 0) {D : Type 0} (c : StackWith T D) (o : Operation T) (p : runs.Pass T (Line T)) (vs : List T) (held : Held) (why : Barred) (moved index : ℕ) : Type 0 where
     pub chain : List ℕ
     pub has : HasNodes c vs chain held
     pub done : List ℕ
@@ -239,14 +244,14 @@ module _ {T : Type 0} where
     pub parts : chain ≡ done ++ left
     pub counted : length done ≡ moved
     pub next : 0 < length left → first left ≡ index
-    pub at : IsAt c o p (LoadFreeToGive (refused (putting vs chain) why)) (full left (reverse (take (length left) vs)) ++ vacant done)
+    pub at : IsAtWith rule c o p (LoadFreeToGive (refused (putting vs chain) why)) (full left (reverse (take (length left) vs)) ++ vacant done)
 
   -- they are all out, and the emptied nodes are to be given back
-  pub record Restores (c : Stack T) (o : Operation T) (p : runs.Pass T (Line T)) (vs : List T) (held : Held) (why : Barred) (q : runs.Pass T (Line T)) : Type 0 where
+  pub record Restores (rule : List (Event T) → Type 0) {D : Type 0} (c : StackWith T D) (o : Operation T) (p : runs.Pass T (Line T)) (vs : List T) (held : Held) (why : Barred) (q : runs.Pass T (Line T)) : Type 0 where
     pub chain : List ℕ
     pub has : HasNodes c vs chain held
-    pub back : IsGiving c o q (refused (putting vs chain) why) held.chain LoadToGive
-    pub begun : begun_of c q ≡ begun_of c p
+    pub back : IsGiving rule c o q (refused (putting vs chain) why) held.chain LoadToGive
+    pub begun : begun_with rule c q ≡ begun_with rule c p
 
   -- a link of the chain that is given back next was read
   abbrev pub ReadsAgain : View T (Line T) → ℕ → ℕ → Type 0

@@ -4,11 +4,12 @@ ghost use Rattle.std.specs.Prelude.{◌≡◌, ◌++◌, [], ◌∷◌, reverse,
 ghost use Rattle.atomic_table.specs.Table.{rest};
 ghost use Rattle.bounded_model.specs.Bulk.{FoldsAll, FoldAnswers};
 ghost use Rattle.bounded_model.specs.Consumes.{Folds};
+ghost use Rattle.running.specs.Ties.{TakeAllDeals};
 ghost use Rattle.stack_machine.specs.Deeds.{in_order};
 ghost use Rattle.stack_table.specs.Lines.{direction};
 ghost use Rattle.index_list.specs.declared.front.Front.TheVariants.{First, Last};
 ghost use Rattle.stack_table.specs.declared.operation.Operation.TheVariants.{Fold as FoldFirst};
-ghost use Rattle.treiber_stack.specs.Calls.{WasFolded, call_of, pass_in, IsPassOf};
+ghost use Rattle.treiber_stack.specs.Calls.{WasFolded, WasFoldedWith, call_of, pass_in, shape_of, IsPassOf, IsPassWith};
 
 use crate::code::giving::{Chain, Give, give_access, give_next};
 use crate::code::refusing::bars_take;
@@ -18,7 +19,7 @@ use atomic_table::Seat;
 use bounded_model::{Folded, TakeRefused};
 use index_list::{Front, move_out};
 use machine::View;
-use running::{Access, Code, Next, Outcome, any, to_the_end};
+use running::{Access, Code, Next, Outcome, Tie, any, to_the_end};
 use stack_machine::Line;
 use stack_table::Operation;
 use stack_table::layout::STACK_LIST;
@@ -81,6 +82,7 @@ impl<T> Stack<T> {
     /// Takes all values by one compare-and-swap, and folds them from the top down. Returns the last
     /// state. A refusal is as that of a take, and returns the state that was handed in. Called in
     /// `examples::buffers`.
+    #[inline]
     pub fn fold_all_atomic<R: Wait, S, F: Fn(S, T) -> S + Drop>(
         &self,
         rt: &R,
@@ -97,12 +99,13 @@ impl<T> Stack<T> {
         ensures answered { FoldAnswers (λ values. values) result.2 (pass_in by) (pass_in result.0) }
         ensures ran { WasFolded self.now (FoldFirst First) (pass_in by) result.0 First result.2 }
     {
-        fold(self, rt, by, Front::First, state, f)
+        self.fold_all_atomic_as(rt, by, state, f)
     }
 }
 
 impl<T> Stack<T> {
     /// As `fold_all_atomic`, from the bottom up.
+    #[inline]
     pub fn fold_all_atomic_reversed<R: Wait, S, F: Fn(S, T) -> S + Drop>(
         &self,
         rt: &R,
@@ -119,28 +122,79 @@ impl<T> Stack<T> {
         ensures answered { FoldAnswers reverse result.2 (pass_in by) (pass_in result.0) }
         ensures ran { WasFolded self.now (FoldFirst Last) (pass_in by) result.0 Last result.2 }
     {
+        self.fold_all_atomic_reversed_as(rt, by, state, f)
+    }
+}
+
+impl<T, D: Tie<T>> Stack<T, D> {
+    /// Folds as `fold_all_atomic` does, in a stack with a rule of its client. The caller shows that
+    /// the take of all values keeps the rule, as `take_as` has it of one.
+    pub fn fold_all_atomic_as<R: Wait, S, F: Fn(S, T) -> S + Drop>(
+        &self,
+        rt: &R,
+        by: Pass<T>,
+        state: S,
+        f: F,
+    ) -> (Pass<T>, S, Result<Folded, TakeRefused>)
+        requires pass { IsPassWith D.rule self.now by }
+        requires deal { TakeAllDeals (shape_of self.now) D.rule (pass_in by) }
+        requires call { F.IsAlwaysCallable f }
+        ensures of { IsPassWith D.rule self.now result.0 }
+        ensures tied { D.rule (pass_in result.0).seen }
+        ensures gives { FoldsAll (call_of self.now by result.0)
+            (λ values. Folds (λ s x t. F.post f s x t) state values result.1)
+            (result.1 ≡ state) result.2 }
+        ensures answered { FoldAnswers (λ values. values) result.2 (pass_in by) (pass_in result.0) }
+        ensures ran { WasFoldedWith D.rule self.now (FoldFirst First) (pass_in by) result.0 First
+            result.2 }
+    {
+        fold(self, rt, by, Front::First, state, f)
+    }
+
+    /// As `fold_all_atomic_as`, from the bottom up.
+    pub fn fold_all_atomic_reversed_as<R: Wait, S, F: Fn(S, T) -> S + Drop>(
+        &self,
+        rt: &R,
+        by: Pass<T>,
+        state: S,
+        f: F,
+    ) -> (Pass<T>, S, Result<Folded, TakeRefused>)
+        requires pass { IsPassWith D.rule self.now by }
+        requires deal { TakeAllDeals (shape_of self.now) D.rule (pass_in by) }
+        requires call { F.IsAlwaysCallable f }
+        ensures of { IsPassWith D.rule self.now result.0 }
+        ensures tied { D.rule (pass_in result.0).seen }
+        ensures gives { FoldsAll (call_of self.now by result.0)
+            (λ values. Folds (λ s x t. F.post f s x t) state (reverse values) result.1)
+            (result.1 ≡ state) result.2 }
+        ensures answered { FoldAnswers reverse result.2 (pass_in by) (pass_in result.0) }
+        ensures ran { WasFoldedWith D.rule self.now (FoldFirst Last) (pass_in by) result.0 Last
+            result.2 }
+    {
         fold(self, rt, by, Front::Last, state, f)
     }
 }
 
-fn fold<T, R: Wait, S, F: Fn(S, T) -> S + Drop>(
-    on: &Stack<T>,
+fn fold<T, D: Tie<T>, R: Wait, S, F: Fn(S, T) -> S + Drop>(
+    on: &Stack<T, D>,
     rt: &R,
     by: Pass<T>,
     front: Front,
     state: S,
     f: F,
 ) -> (Pass<T>, S, Result<Folded, TakeRefused>)
-    requires pass { IsPassOf on.now by }
+    requires pass { IsPassWith D.rule on.now by }
+    requires deal { TakeAllDeals (shape_of on.now) D.rule (pass_in by) }
     requires call { F.IsAlwaysCallable f }
-    ensures of { IsPassOf on.now result.0 }
+    ensures of { IsPassWith D.rule on.now result.0 }
     ensures gives { FoldsAll (call_of on.now by result.0)
         (λ values. Folds (λ s x t. F.post f s x t) state (in_order (direction front) values)
         result.1)
         (result.1 ≡ state) result.2 }
     ensures answered { FoldAnswers (λ values. in_order (direction front) values) result.2
         (pass_in by) (pass_in result.0) }
-    ensures ran { WasFolded on.now (FoldFirst front) (pass_in by) result.0 front result.2 }
+    ensures ran { WasFoldedWith D.rule on.now (FoldFirst front) (pass_in by) result.0 front
+        result.2 }
 {
     let table = &on.table.shared;
     let Pass { mut pass, .. } = by;
@@ -179,7 +233,11 @@ fn fold<T, R: Wait, S, F: Fn(S, T) -> S + Drop>(
 
 // Moves the value out of the front slot held, which becomes the last one.
 #[inline]
-pub(crate) fn take_out<T>(on: &Stack<T>, by: &mut running::Pass<T, Line<T>>, index: u32) -> T
+pub(crate) fn take_out<T, D: Tie<T>>(
+    on: &Stack<T, D>,
+    by: &mut running::Pass<T, Line<T>>,
+    index: u32,
+) -> T
     requires table { by.old.seat.table_id ≡ on.now.table.shared.table_id }
     requires full { (x : T) × (by.old.seat.me.1 ≡ (index, Some x) ∷ rest by.old.seat.me.1) }
     ensures table { by.new.seat.table_id ≡ by.old.seat.table_id }
@@ -192,13 +250,14 @@ pub(crate) fn take_out<T>(on: &Stack<T>, by: &mut running::Pass<T, Line<T>>, ind
     value
 }
 
-impl<T> Code<Stack<T>, T, Line<T>, Operation<T>, Stacked, FoldStop<T>, 2> for FoldAt<T> {
+impl<T, D: Tie<T>> Code<Stack<T, D>, T, Line<T>, Operation<T>, Stacked<D>, FoldStop<T>, 2>
+    for FoldAt<T> {
     ghost use Rattle.treiber_stack.specs.code.Folding.{fold_account};
 
     ghost account = { fold_account };
 
     #[inline(always)]
-    fn access(&self, on: &Stack<T>) -> Access {
+    fn access(&self, on: &Stack<T, D>) -> Access {
         match self {
             FoldAt::Load(_) => Access::LoadTop(STACK_LIST),
             FoldAt::TakeAll(front, top) => Access::TakeAll(STACK_LIST, *top, *front),
@@ -214,7 +273,7 @@ impl<T> Code<Stack<T>, T, Line<T>, Operation<T>, Stacked, FoldStop<T>, 2> for Fo
     #[inline(always)]
     fn next(
         self,
-        on: &Stack<T>,
+        on: &Stack<T, D>,
         seat: &mut Seat<Option<T>, View<T, Line<T>>>,
         outcome: Outcome,
     ) -> Next<FoldAt<T>, FoldStop<T>> {

@@ -13,7 +13,7 @@ use crate::bulk::source::Source;
 use crate::code::giving::Chain;
 use crate::life::stack::Stack;
 use index_list::put_in;
-use running::{Pass, peek, store_link_step};
+use running::{Pass, Tie, peek, store_link_step};
 use stack_machine::Line;
 use stack_table::Operation;
 use stack_table::layout::{STACK_LIST, link};
@@ -21,19 +21,19 @@ use tagged_index::Tagged;
 
 /// Moves the next value into the slot of the node taken last, and links the node to the one before
 /// it.
-pub(crate) fn load_node<T>(
-    on: &Stack<T>,
+pub(crate) fn load_node<T, D: Tie<T>>(
+    on: &Stack<T, D>,
     by: Pass<T, Line<T>>,
     held: Held,
     index: u32,
     value: T,
     operation: &Operation<T>,
 ) -> (Pass<T, Line<T>>, Held)
-    requires { (vs : List T) × HasTaken on.now operation.now by vs held index
+    requires { (vs : List T) × HasTaken D.rule on.now operation.now by vs held index
         × IsNext vs held.count value }
-    ensures { (vs : List T) → HasTaken on.now operation.now by vs held index
+    ensures { (vs : List T) → HasTaken D.rule on.now operation.now by vs held index
         → IsNext vs held.count value
-        → FillsOne on.now operation.now by vs held result.0 result.1 }
+        → FillsOne D.rule on.now operation.now by vs held result.0 result.1 }
 {
     let mut pass = by;
     let table = &on.table.shared;
@@ -52,17 +52,17 @@ pub(crate) fn load_node<T>(
 
 /// Moves the values of a refused range back to their source, the last first. It reads the links of
 /// the nodes by loads that belong to no line.
-pub(crate) fn restore<T, V: Source<T>>(
-    on: &Stack<T>,
+pub(crate) fn restore<T, D: Tie<T>, V: Source<T>>(
+    on: &Stack<T, D>,
     by: Pass<T, Line<T>>,
     held: Held,
     values: &mut V,
 ) -> Pass<T, Line<T>>
     requires { (o : Operation T) × (vs : List T) × (why : Barred)
-        × IsRefused on.now o by vs held why × V.left values.old vs held.count }
+        × IsRefused D.rule on.now o by vs held why × V.left values.old vs held.count }
     ensures restored { (o : Operation T) (vs : List T) (why : Barred)
-        → IsRefused on.now o by vs held why → V.left values.old vs held.count
-        → Restores on.now o by vs held why result × V.left values.new vs 0 }
+        → IsRefused D.rule on.now o by vs held why → V.left values.old vs held.count
+        → Restores D.rule on.now o by vs held why result × V.left values.new vs 0 }
     ensures took { (pass_in result).steps ≤ (pass_in by).steps + held.count }
     ensures same { V.borrow values.new ≡ V.borrow values.old }
 {
@@ -81,7 +81,7 @@ pub(crate) fn restore<T, V: Source<T>>(
 
 // Reads a link of the chain that it gives back next, by a load that belongs to no line.
 #[inline]
-fn read_again<T>(on: &Stack<T>, by: &mut Pass<T, Line<T>>, index: u32) -> u32
+fn read_again<T, D: Tie<T>>(on: &Stack<T, D>, by: &mut Pass<T, Line<T>>, index: u32) -> u32
     requires { (by.old.seat.table_id ≡ on.now.table.shared.table_id)
         × (index < room_of on.now) }
     ensures seat { (by.new.seat.table_id ≡ by.old.seat.table_id)

@@ -4,7 +4,7 @@ ghost use Rattle.std.specs.Prelude.{List};
 ghost use Rattle.bounded_model.specs.Stepping.{MatchStepped};
 ghost use Rattle.running.specs.Steps.{TookFor};
 ghost use Rattle.treiber_stack.specs.code.RangeTrying.{HasStopped, IsRangeOf, RanOn};
-ghost use Rattle.treiber_stack.specs.Calls.{begun_of};
+ghost use Rattle.treiber_stack.specs.Calls.{begun_with};
 
 use crate::code::begun::Begun;
 use crate::code::giving::{Chain, Give, give_access, give_next};
@@ -14,7 +14,7 @@ use crate::rule::Stacked;
 use atomic_table::Seat;
 use bounded_model::Stepped;
 use machine::View;
-use running::{Access, Code, Next, Outcome, try_for};
+use running::{Access, Code, Next, Outcome, Tie, try_for};
 use stack_machine::Line;
 use stack_table::Operation;
 use stack_table::layout::{FREE_LIST, STACK_LIST};
@@ -97,20 +97,20 @@ pub(crate) struct RangeStopped<T> {
 }
 
 /// Makes a range's steps until it stops, or until it has made `steps` steps.
-pub(crate) fn try_range<T>(
-    on: &Stack<T>,
+pub(crate) fn try_range<T, D: Tie<T>>(
+    on: &Stack<T, D>,
     by: running::Pass<T, Line<T>>,
     held: Held,
     at: RangeAt,
     operation: &Operation<T>,
     steps: u64,
 ) -> Stepped<(running::Pass<T, Line<T>>, RangeAt), running::Pass<T, Line<T>>, RangeStop>
-    requires { (vs : List T) × IsRangeOf on.now operation.now by vs held at }
-    ensures ran { (vs : List T) → IsRangeOf on.now operation.now by vs held at
+    requires { (vs : List T) × IsRangeOf D.rule on.now operation.now by vs held at }
+    ensures ran { (vs : List T) → IsRangeOf D.rule on.now operation.now by vs held at
         → MatchStepped result
-        (λ next. RanOn on.now operation.now by vs held at next.0 next.1)
-        (λ back stop. HasStopped on.now operation.now (begun_of on.now by) back vs held at
-        stop) }
+        (λ next. RanOn D.rule on.now operation.now by vs held at next.0 next.1)
+        (λ back stop. HasStopped D.rule on.now operation.now (begun_with D.rule on.now by) back vs
+        held at stop) }
     ensures took { TookFor steps by result }
 {
     let begun = Begun::of(operation, &by);
@@ -121,13 +121,14 @@ pub(crate) fn try_range<T>(
     }
 }
 
-impl<T> Code<Stack<T>, T, Line<T>, Operation<T>, Stacked, RangeStopped<T>, 2> for Range<T> {
+impl<T, D: Tie<T>> Code<Stack<T, D>, T, Line<T>, Operation<T>, Stacked<D>, RangeStopped<T>, 2>
+    for Range<T> {
     ghost use Rattle.treiber_stack.specs.code.Ranging.{range_account};
 
     ghost account = { range_account };
 
     #[inline(always)]
-    fn access(&self, on: &Stack<T>) -> Access {
+    fn access(&self, on: &Stack<T, D>) -> Access {
         match &self.at {
             RangeAt::LoadFree => Access::LoadTop(FREE_LIST),
             RangeAt::Link(free) => Access::LoadLink(FREE_LIST, free.index()),
@@ -145,7 +146,7 @@ impl<T> Code<Stack<T>, T, Line<T>, Operation<T>, Stacked, RangeStopped<T>, 2> fo
     #[inline(always)]
     fn next(
         self,
-        on: &Stack<T>,
+        on: &Stack<T, D>,
         _seat: &mut Seat<Option<T>, View<T, Line<T>>>,
         outcome: Outcome,
     ) -> Next<Range<T>, RangeStopped<T>> {

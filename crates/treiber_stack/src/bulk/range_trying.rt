@@ -1,9 +1,10 @@
 //! A range that is put in parts of a bounded number of steps, whatever its values come from. When
 //! the steps are used up, it comes back as it is, begun as before.
-ghost use Rattle.std.specs.Prelude.{◌≡◌, List, [], length, MatchOption};
+ghost use Rattle.std.specs.Prelude.{◌≡◌, List, [], length, IfSome, MatchOption};
 ghost use Rattle.bounded_model.specs.declared.views.PassView.{PassView};
-ghost use Rattle.treiber_stack.specs.Calls.{IsRange, IsPassOf, begun_of, pass_in};
-ghost use Rattle.treiber_stack.specs.code.RangeTrying.{HasStopped, IsRangeOp, RangeCame, RangeStarts, StoppedAt, left_after, left_at};
+ghost use Rattle.running.specs.Going.{Owes};
+ghost use Rattle.treiber_stack.specs.Calls.{IsRange, IsPassWith, machine_with, begun_with, pass_in};
+ghost use Rattle.treiber_stack.specs.code.RangeTrying.{HasStopped, IsRangeOpWith, RangeCame, RangeStarts, StoppedAt, left_after, left_at};
 ghost use Rattle.treiber_stack.specs.Bulk.{RangeMost, RangeSteps};
 ghost use Rattle.treiber_stack.specs.declared.bulk.range_steps.RangeAt.{RangeAt};
 ghost use Rattle.treiber_stack.specs.declared.bulk.range_steps.RangeStop.TheVariants.{Over};
@@ -14,7 +15,7 @@ use crate::bulk::source::Source;
 use crate::code::giving::{Chain, Give};
 use crate::life::stack::{Pass, Stack};
 use bounded_model::{RangeRefused, Ranged, Stepped, Word};
-use running::Op;
+use running::{Op, Tie};
 use stack_machine::Line;
 use stack_table::Operation;
 use tagged_index::NULL;
@@ -27,10 +28,15 @@ pub type RangeOp<T> = Op<T, Line<T>, Operation<T>, RangeState>;
 pub type RangeMade<T> = Stepped<RangeOp<T>, Pass<T>, Result<Ranged, RangeRefused>>;
 
 /// A put that makes no step yet. It is refused at once, as `Nothing`, if there is no value to put.
-pub(crate) fn begin<T>(on: &Stack<T>, by: Pass<T>, put: Option<Operation<T>>) -> RangeMade<T>
-    requires { IsPassOf on.now by }
+pub(crate) fn begin<T, D: Tie<T>>(
+    on: &Stack<T, D>,
+    by: Pass<T>,
+    put: Option<Operation<T>>,
+) -> RangeMade<T>
+    requires pass { IsPassWith D.rule on.now by }
+    requires owes { IfSome put (λ o. Owes (machine_with D.rule on.now) o (pass_in by)) }
     ensures { (vs : List T) → MatchOption put (vs ≡ []) (λ o. IsRange o vs)
-        → RangeStarts on.now vs (pass_in by) result }
+        → RangeStarts D.rule on.now vs (pass_in by) result }
 {
     let _ = on;
     let Some(operation) = put else {
@@ -54,20 +60,20 @@ pub(crate) fn begin<T>(on: &Stack<T>, by: Pass<T>, put: Option<Operation<T>>) ->
 
 /// Continues the put with the source as it left it, for at most `steps` steps to take each node,
 /// `steps` to put them onto the top and `steps` to give them back.
-pub(crate) fn run_for<T, V: Source<T>>(
-    on: &Stack<T>,
+pub(crate) fn run_for<T, D: Tie<T>, V: Source<T>>(
+    on: &Stack<T, D>,
     op: RangeOp<T>,
     values: &mut V,
     steps: u64,
 ) -> RangeMade<T>
-    requires { (vs : List T) × IsRangeOp on.now vs op
+    requires { (vs : List T) × IsRangeOpWith D.rule on.now vs op
         × V.left values.old vs (left_at op.at.at op.at.held) }
-    ensures came { (vs : List T) → IsRangeOp on.now vs op
+    ensures came { (vs : List T) → IsRangeOpWith D.rule on.now vs op
         → V.left values.old vs (left_at op.at.at op.at.held)
-        → RangeCame on.now vs (begun_of on.now op.pass) result
+        → RangeCame D.rule on.now vs (begun_with D.rule on.now op.pass) result
         × V.left values.new vs (left_after result) }
     ensures took { RangeSteps steps op result }
-    ensures most { (vs : List T) → IsRangeOp on.now vs op
+    ensures most { (vs : List T) → IsRangeOpWith D.rule on.now vs op
         → V.left values.old vs (left_at op.at.at op.at.held)
         → RangeMost steps (length vs) op result }
     ensures same { V.borrow values.new ≡ V.borrow values.old }
@@ -102,8 +108,8 @@ pub(crate) fn run_for<T, V: Source<T>>(
 
 // Continues a range that has stopped. With a node it moves the next value into its slot. Then it
 // takes a node for the value after it, or goes to the top if all values have one.
-fn after_stop<T, V: Source<T>>(
-    on: &Stack<T>,
+fn after_stop<T, D: Tie<T>, V: Source<T>>(
+    on: &Stack<T, D>,
     by: running::Pass<T, Line<T>>,
     held: Held,
     stop: RangeStop,
@@ -111,14 +117,14 @@ fn after_stop<T, V: Source<T>>(
     operation: Operation<T>,
 ) -> RangeMade<T>
     requires { (v : PassView T) × (vs : List T) × (at : RangeAt)
-        × HasStopped on.now operation v by vs held at stop × IsRange operation vs
+        × HasStopped D.rule on.now operation v by vs held at stop × IsRange operation vs
         × V.left values.old vs (left_at at held) }
     ensures came { (v : PassView T) (vs : List T) (at : RangeAt)
-        → HasStopped on.now operation v by vs held at stop → IsRange operation vs
+        → HasStopped D.rule on.now operation v by vs held at stop → IsRange operation vs
         → V.left values.old vs (left_at at held)
-        → RangeCame on.now vs v result × V.left values.new vs (left_after result) }
+        → RangeCame D.rule on.now vs v result × V.left values.new vs (left_after result) }
     ensures stopped { (v : PassView T) (vs : List T) (at : RangeAt)
-        → HasStopped on.now operation v by vs held at stop
+        → HasStopped D.rule on.now operation v by vs held at stop
         → V.left values.old vs (left_at at held) → StoppedAt at held.count by result }
     ensures same { V.borrow values.new ≡ V.borrow values.old }
 {
@@ -148,8 +154,8 @@ fn after_stop<T, V: Source<T>>(
 
 // Says what a range that is over has put. If nothing can be put onto the top, the values go back to
 // their source, and then the nodes to the free list.
-fn end_range<T, V: Source<T>>(
-    on: &Stack<T>,
+fn end_range<T, D: Tie<T>, V: Source<T>>(
+    on: &Stack<T, D>,
     by: running::Pass<T, Line<T>>,
     held: Held,
     end: RangeEnd,
@@ -157,14 +163,14 @@ fn end_range<T, V: Source<T>>(
     operation: Operation<T>,
 ) -> RangeMade<T>
     requires { (v : PassView T) × (vs : List T) × (at : RangeAt)
-        × HasStopped on.now operation v by vs held at (Over end) × IsRange operation vs
+        × HasStopped D.rule on.now operation v by vs held at (Over end) × IsRange operation vs
         × V.left values.old vs (left_at at held) }
     ensures came { (v : PassView T) (vs : List T) (at : RangeAt)
-        → HasStopped on.now operation v by vs held at (Over end) → IsRange operation vs
+        → HasStopped D.rule on.now operation v by vs held at (Over end) → IsRange operation vs
         → V.left values.old vs (left_at at held)
-        → RangeCame on.now vs v result × V.left values.new vs (left_after result) }
+        → RangeCame D.rule on.now vs v result × V.left values.new vs (left_after result) }
     ensures stopped { (v : PassView T) (vs : List T) (at : RangeAt)
-        → HasStopped on.now operation v by vs held at (Over end)
+        → HasStopped D.rule on.now operation v by vs held at (Over end)
         → StoppedAt at held.count by result }
     ensures same { V.borrow values.new ≡ V.borrow values.old }
 {

@@ -5,14 +5,16 @@ ghost use Rattle.std.specs.Prelude.{◌≡◌, List, length, IsSome};
 ghost use Rattle.std.specs.List.{AllByRecursion as Every};
 ghost use Rattle.bounded_model.specs.declared.answers.Stepped.TheVariants.{Done};
 ghost use Rattle.bounded_model.specs.Bulk.{PutsRange, RangeAnswers, somes};
+ghost use Rattle.running.specs.Ties.{PutAllDeals};
 ghost use Rattle.treiber_stack.specs.Bulk.{CopyBegun, CopyTried, IsCopying, IsRanging, RangeBegun, RangeMost, RangeSteps, RangeTried};
-ghost use Rattle.treiber_stack.specs.Calls.{WasRange, IsPassOf, begun_of, call_of, pass_in};
-ghost use Rattle.treiber_stack.specs.code.RangeTrying.{IsRangeOp, RangeCame, left_at, put_of};
+ghost use Rattle.treiber_stack.specs.Calls.{WasRange, WasRangeWith, IsPassOf, IsPassWith, begun_of, begun_with, call_of, pass_in, shape_of};
+ghost use Rattle.treiber_stack.specs.code.RangeTrying.{IsRangeOpWith, RangeCame, left_at, put_of};
 
 use crate::bulk::range_trying::{RangeMade, RangeOp, begin, run_for};
 use crate::bulk::source::{Copies, Places, Source, put_of_copies, put_of_places};
 use crate::life::stack::{Pass, Stack};
 use bounded_model::{RangeRefused, Ranged, Stepped};
+use running::Tie;
 use std::sync::Wait;
 
 impl<T> Stack<T> {
@@ -20,6 +22,7 @@ impl<T> Stack<T> {
     /// the new top, and their places are then `None`. A refusal leaves every place as it was: it is `Nothing`
     /// for an empty range, else as that of a put. The call, if the range is not empty, was one run of the
     /// machine's steps. Called in `examples::stack`.
+    #[inline]
     pub fn put_range<R: Wait>(
         &self,
         rt: &R,
@@ -33,13 +36,7 @@ impl<T> Stack<T> {
         ensures answered { RangeAnswers (somes values.old) result.1 (pass_in by) (pass_in result.0) }
         ensures ran { WasRange self.now (pass_in by) (somes values.old) result.1 result.0 }
     {
-        match self.begin_range(by, values) {
-            Stepped::Again(begun) => {
-                let mut places = Places { places: values };
-                run_whole(self, rt, begun, &mut places)
-            }
-            Stepped::Done(pass, answer) => (pass, answer),
-        }
+        self.put_range_as(rt, by, values)
     }
 
     /// A put of the values in these places that makes no step yet. It refuses an empty range at
@@ -99,18 +96,47 @@ impl<T: Copy> Stack<T> {
     }
 }
 
+impl<T, D: Tie<T>> Stack<T, D> {
+    /// Puts a range as `put_range` does, in a stack with a rule of its client, as `put_as` puts one
+    /// value. The caller shows it for each number of values that may have got nodes.
+    pub fn put_range_as<R: Wait>(
+        &self,
+        rt: &R,
+        by: Pass<T>,
+        values: &mut [Option<T>],
+    ) -> (Pass<T>, Result<Ranged, RangeRefused>)
+        requires pass { IsPassWith D.rule self.now by }
+        requires values { Every (λ place. IsSome place) values.old }
+        requires deal { PutAllDeals (shape_of self.now) D.rule (pass_in by) (somes values.old) }
+        ensures of { IsPassWith D.rule self.now result.0 }
+        ensures tied { D.rule (pass_in result.0).seen }
+        ensures gives { PutsRange (call_of self.now by result.0) values.old values.new result.1 }
+        ensures answered { RangeAnswers (somes values.old) result.1 (pass_in by) (pass_in result.0) }
+        ensures ran { WasRangeWith D.rule self.now (pass_in by) (somes values.old) result.1
+            result.0 }
+    {
+        match begin(self, by, put_of_places(values)) {
+            Stepped::Again(begun) => {
+                let mut places = Places { places: values };
+                run_whole(self, rt, begun, &mut places)
+            }
+            Stepped::Done(pass, answer) => (pass, answer),
+        }
+    }
+}
+
 // Continues a range that was begun until it is over. Each part may make as many steps as there are.
-fn run_whole<T, V: Source<T>, R: Wait>(
-    on: &Stack<T>,
+fn run_whole<T, D: Tie<T>, V: Source<T>, R: Wait>(
+    on: &Stack<T, D>,
     rt: &R,
     begun: RangeOp<T>,
     values: &mut V,
 ) -> (Pass<T>, Result<Ranged, RangeRefused>)
-    requires { (vs : List T) × IsRangeOp on.now vs begun
+    requires { (vs : List T) × IsRangeOpWith D.rule on.now vs begun
         × V.left values.old vs (left_at begun.at.at begun.at.held) }
-    ensures came { (vs : List T) → IsRangeOp on.now vs begun
+    ensures came { (vs : List T) → IsRangeOpWith D.rule on.now vs begun
         → V.left values.old vs (left_at begun.at.at begun.at.held)
-        → RangeCame on.now vs (begun_of on.now begun.pass) (Done result.0 result.1)
+        → RangeCame D.rule on.now vs (begun_with D.rule on.now begun.pass) (Done result.0 result.1)
         × V.left values.new vs (put_of result.1) }
     ensures same { V.borrow values.new ≡ V.borrow values.old }
 {

@@ -4,11 +4,11 @@ ghost use Rattle.bounded_model.specs.declared.views.Answered.TheVariants.{Gauge 
 ghost use Rattle.stack_machine.specs.Machine.{ends};
 ghost use Rattle.stack_machine.specs.declared.lines.Answer.TheVariants.{Gauge as Gauged};
 ghost use Rattle.stack_machine.specs.declared.lines.Line.TheVariants.{LoadTopToGauge};
-ghost use Rattle.treiber_stack.specs.Calls.{GaugeGives, IsPassOf, limit_of, pass_in, room_of};
-ghost use Rattle.treiber_stack.specs.code.Steps.{OneLine};
+ghost use Rattle.treiber_stack.specs.Calls.{GaugeGives, IsPassWith, limit_of, pass_in, room_of};
+ghost use Rattle.treiber_stack.specs.code.Steps.{OneLineWith};
 
 use crate::life::stack::{Pass, Stack};
-use running::load_top_step;
+use running::{Tie, load_top_step};
 use stack_table::Operation;
 use stack_table::layout::STACK_LIST;
 
@@ -22,18 +22,18 @@ pub struct Gauge {
     pub used: u64,
 }
 
-impl<T> Stack<T> {
+impl<T, D: Tie<T>> Stack<T, D> {
     /// Whether the stack was closed, and how many tags were used, both at one time since its pass's
     /// last step before the call. The call is one load of the top. Called in `examples::stack`.
     #[inline]
     pub fn gauge(&self, by: Pass<T>) -> (Pass<T>, Gauge)
-        requires { IsPassOf self.now by }
-        ensures of { IsPassOf self.now result.0 }
+        requires { IsPassWith D.rule self.now by }
+        ensures of { IsPassWith D.rule self.now result.0 }
         ensures gives { GaugeGives (room_of self.now) (limit_of self.now)
             (pass_in by) (pass_in result.0) result.1 }
         ensures answered { Answers (pass_in by) (pass_in result.0)
             (GaugeAnswered result.1.closed result.1.used) }
-        ensures line { OneLine self.now by.pass result.0.pass LoadTopToGauge
+        ensures line { OneLineWith D.rule self.now by.pass result.0.pass LoadTopToGauge
             (ends (Gauged result.1.closed result.1.used)) }
     {
         let Pass { mut pass, kept } = by;

@@ -12,14 +12,14 @@ ghost use Rattle.stack_machine.specs.declared.lines.Answer.TheVariants.{Look as 
 ghost use Rattle.stack_machine.specs.declared.lines.Line.TheVariants.{LoadTopToLook};
 ghost use Rattle.stack_table.specs.declared.operation.Operation.TheVariants.{Look as LookFirst};
 ghost use Rattle.treiber_stack.specs.code.Machine.{is_call};
-ghost use Rattle.treiber_stack.specs.code.Steps.{HasLooked, LookRan, IsSeatOf, OneLine};
-ghost use Rattle.treiber_stack.specs.Calls.{IsLooking, WasRun, IsPassOf, machine_of, pass_in, shape_of, LookTried};
+ghost use Rattle.treiber_stack.specs.code.Steps.{HasLooked, LookRan, IsSeatWith, OneLineWith};
+ghost use Rattle.treiber_stack.specs.Calls.{IsLooking, WasRunWith, IsPassOf, IsPassWith, machine_of, machine_with, pass_in, shape_of, LookTried};
 ghost use Rattle.treiber_stack.specs.code.Looking.{look_account};
 
 use crate::code::looking::{LookAt, LookOp};
 use crate::life::stack::{Answered, Pass, Stack};
 use bounded_model::Stepped;
-use running::{Next, Op, leave, load_top_step, whole};
+use running::{Next, Op, Tie, leave, load_top_step, whole};
 use stack_machine::Line;
 use stack_table::Operation;
 use stack_table::layout::STACK_LIST;
@@ -27,25 +27,6 @@ use std::sync::Wait;
 use tagged_index::NULL;
 
 impl<T> Stack<T> {
-    /// Whether the stack held no value at some time since its pass's last step before the call, also
-    /// if it is closed or shut. The call is one load of the top, and needs no `rt`. It was a run of
-    /// the machine's steps.
-    #[inline]
-    pub fn is_empty(&self, by: Pass<T>) -> (Pass<T>, bool)
-        requires { IsPassOf self.now by }
-        ensures of { IsPassOf self.now result.0 }
-        ensures gives { LookGives (shape_of self.now) (pass_in by) (pass_in result.0) result.1 }
-        ensures line { OneLine self.now by.pass result.0.pass LoadTopToLook
-            (ends (Looked result.1)) }
-        ensures answered { Answers (pass_in by) (pass_in result.0) (LookAnswered result.1) }
-        ensures ran { WasRun self.now LookFirst (pass_in by) result.0 (Looked result.1) }
-        ensures new { HasNewCall by result.0 }
-    {
-        let Pass { pass, kept } = by;
-        let (pass, empty) = look_once(self, pass, &Operation::Look);
-        (Pass { pass, kept }, empty)
-    }
-
     /// Begins a look, and makes no step yet. If the operation is dropped, its pass goes with it.
     #[inline]
     pub fn begin_look(&self, by: Pass<T>) -> LookOp<T>
@@ -55,25 +36,6 @@ impl<T> Stack<T> {
     {
         let Pass { pass, .. } = by;
         Op::begin(self, pass, Operation::Look, LookAt::Load)
-    }
-
-    /// Whether the stack held no value at some time since its pass's last step before the call, also
-    /// if it is closed or shut. As `is_empty`, which needs no `rt`. The call was a run of the
-    /// machine's steps.
-    #[inline]
-    pub fn look<R: Wait>(&self, rt: &R, by: Pass<T>) -> (Pass<T>, bool)
-        requires { IsPassOf self.now by }
-        ensures of { IsPassOf self.now result.0 }
-        ensures gives { LookGives (shape_of self.now) (pass_in by) (pass_in result.0) result.1 }
-        ensures answered { Answers (pass_in by) (pass_in result.0) (LookAnswered result.1) }
-        ensures ran { WasRunBy (machine_of self.now) (look_account self.now.table.shared.key)
-            (is_call LookCall) (pass_in by) result.0 result.1 }
-        ensures new { HasNewCall by result.0 }
-    {
-        let Pass { pass, .. } = by;
-        let look = Operation::Look;
-        let first = look_fast(self, pass, &look);
-        whole(rt, self, first, look)
     }
 
     /// Looks on the fast path alone, as `put_at_once` puts. The call makes at most 1 step. The
@@ -92,16 +54,57 @@ impl<T> Stack<T> {
     }
 }
 
+impl<T, D: Tie<T>> Stack<T, D> {
+    /// Whether the stack held no value at some time since its pass's last step before the call, also
+    /// if it is closed or shut. The call is one load of the top, and needs no `rt`. It was a run of
+    /// the machine's steps.
+    #[inline]
+    pub fn is_empty(&self, by: Pass<T>) -> (Pass<T>, bool)
+        requires { IsPassWith D.rule self.now by }
+        ensures of { IsPassWith D.rule self.now result.0 }
+        ensures gives { LookGives (shape_of self.now) (pass_in by) (pass_in result.0) result.1 }
+        ensures line { OneLineWith D.rule self.now by.pass result.0.pass LoadTopToLook
+            (ends (Looked result.1)) }
+        ensures answered { Answers (pass_in by) (pass_in result.0) (LookAnswered result.1) }
+        ensures ran { WasRunWith D.rule self.now LookFirst (pass_in by) result.0 (Looked result.1) }
+        ensures new { HasNewCall by result.0 }
+    {
+        let Pass { pass, kept } = by;
+        let (pass, empty) = look_once(self, pass, &Operation::Look);
+        (Pass { pass, kept }, empty)
+    }
+
+    /// Whether the stack held no value at some time since its pass's last step before the call, also
+    /// if it is closed or shut. As `is_empty`, which needs no `rt`. The call was a run of the
+    /// machine's steps.
+    #[inline]
+    pub fn look<R: Wait>(&self, rt: &R, by: Pass<T>) -> (Pass<T>, bool)
+        requires { IsPassWith D.rule self.now by }
+        ensures of { IsPassWith D.rule self.now result.0 }
+        ensures gives { LookGives (shape_of self.now) (pass_in by) (pass_in result.0) result.1 }
+        ensures answered { Answers (pass_in by) (pass_in result.0) (LookAnswered result.1) }
+        ensures ran { WasRunBy (machine_with D.rule self.now)
+            (look_account self.now.table.shared.key)
+            (is_call LookCall) (pass_in by) result.0 result.1 }
+        ensures new { HasNewCall by result.0 }
+    {
+        let Pass { pass, .. } = by;
+        let look = Operation::Look;
+        let first = look_fast(self, pass, &look);
+        whole(rt, self, first, look)
+    }
+}
+
 // A look's one step, as its operation makes it.
 #[inline(always)]
-fn look_fast<T>(
-    on: &Stack<T>,
+fn look_fast<T, D: Tie<T>>(
+    on: &Stack<T, D>,
     by: running::Pass<T, Line<T>>,
     look: &Operation<T>,
 ) -> (running::Pass<T, Line<T>>, Next<LookAt, Answered<bool>>)
     requires named { look.now ≡ LookFirst }
-    requires pass { IsSeatOf on.now by }
-    ensures ran { LookRan on.now look.now by result.0 result.1 }
+    requires pass { IsSeatWith D.rule on.now by }
+    ensures ran { LookRan D.rule on.now look.now by result.0 result.1 }
     ensures took { (pass_now result.0).steps ≤ (pass_now by).steps + 1 }
 {
     let (pass, reply) = look_once(on, by, look);
@@ -110,14 +113,14 @@ fn look_fast<T>(
 
 /// The one step of a look.
 #[inline]
-pub(crate) fn look_once<T>(
-    on: &Stack<T>,
+pub(crate) fn look_once<T, D: Tie<T>>(
+    on: &Stack<T, D>,
     by: running::Pass<T, Line<T>>,
     look: &Operation<T>,
 ) -> (running::Pass<T, Line<T>>, bool)
     requires named { look.now ≡ LookFirst }
-    requires pass { IsSeatOf on.now by }
-    ensures { HasLooked on.now by result.0 result.1 }
+    requires pass { IsSeatWith D.rule on.now by }
+    ensures { HasLooked D.rule on.now by result.0 result.1 }
 {
     let mut pass = by;
     let top = load_top_step(&on.table.shared, &mut pass.seat, STACK_LIST, look);

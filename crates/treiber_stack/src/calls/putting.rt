@@ -23,16 +23,17 @@ ghost use Rattle.bounded_model.specs.declared.commands.Command.TheVariants.{Put 
 ghost use Rattle.running.specs.Kept.{HasNewCall, WasRun};
 ghost use Rattle.running.specs.Ops.{underway_of};
 ghost use Rattle.running.specs.Passes.{pass_in as pass_now};
+ghost use Rattle.running.specs.Ties.{PutDeals};
 ghost use Rattle.treiber_stack.specs.code.Machine.{is_call, put_of};
-ghost use Rattle.treiber_stack.specs.Calls.{IsPutting, IsPassOf, machine_of, pass_in, shape_of, PutTried};
+ghost use Rattle.treiber_stack.specs.Calls.{IsPutting, IsPassOf, IsPassWith, machine_of, machine_with, pass_in, shape_of, PutTried};
 ghost use Rattle.treiber_stack.specs.code.Putting.{put_account};
-ghost use Rattle.treiber_stack.specs.code.Steps.{PutStands, PutRan, IsSeatOf};
+ghost use Rattle.treiber_stack.specs.code.Steps.{PutStands, PutRan, IsSeatWith};
 ghost use Rattle.treiber_stack.specs.declared.code.putting.PutAt.TheVariants.{Refuse};
 
 use crate::code::putting::{Answer, PutAt, PutOp};
 use crate::life::stack::{Answered, Pass, Stack};
 use bounded_model::{PutRefused, Stepped};
-use running::{Next, Op, any, fast_step, first_step, leave, told, whole};
+use running::{Next, Op, Tie, any, fast_step, first_step, leave, told, whole};
 use stack_machine::Line;
 use stack_table::{Listed, Operation};
 use std::snapshot::Snapshot;
@@ -40,8 +41,8 @@ use std::sync::Wait;
 
 /// A put's steps on its fast path, as long as no other pass is faster.
 #[inline(always)]
-pub(crate) fn put_fast<T>(
-    on: &Stack<T>,
+pub(crate) fn put_fast<T, D: Tie<T>>(
+    on: &Stack<T, D>,
     by: running::Pass<T, Line<T>>,
     value: T,
     put: &Operation<T>,
@@ -50,8 +51,9 @@ pub(crate) fn put_fast<T>(
     Next<PutAt<T>, Answered<Answer<T>>>,
 )
     requires named { put.now ≡ put_of value }
-    requires pass { IsSeatOf on.now by }
-    ensures ran { PutRan on.now put.now by result.0 result.1 }
+    requires pass { IsSeatWith D.rule on.now by }
+    requires deal { PutDeals (shape_of on.now) D.rule (pass_now by) value }
+    ensures ran { PutRan D.rule on.now put.now by result.0 result.1 }
     ensures took { (pass_now result.0).steps ≤ (pass_now by).steps + 6 }
 {
     let (pass, at) = fast_step!(put_fast_node(on, by, value, put));
@@ -63,8 +65,8 @@ pub(crate) fn put_fast<T>(
 
 // First the steps that take a node.
 #[inline]
-fn put_fast_node<T>(
-    on: &Stack<T>,
+fn put_fast_node<T, D: Tie<T>>(
+    on: &Stack<T, D>,
     by: running::Pass<T, Line<T>>,
     value: T,
     put: &Operation<T>,
@@ -73,8 +75,9 @@ fn put_fast_node<T>(
     Next<PutAt<T>, Answered<Answer<T>>>,
 )
     requires named { put.now ≡ put_of value }
-    requires pass { IsSeatOf on.now by }
-    ensures ran { PutRan on.now put.now by result.0 result.1 }
+    requires pass { IsSeatWith D.rule on.now by }
+    requires deal { PutDeals (shape_of on.now) D.rule (pass_now by) value }
+    ensures ran { PutRan D.rule on.now put.now by result.0 result.1 }
     ensures took { (pass_now result.0).steps ≤ (pass_now by).steps + 3 }
 {
     let table = &on.table.shared;
@@ -91,8 +94,8 @@ fn put_fast_node<T>(
 
 // The step that says why nothing can be put, if no node is free.
 #[inline]
-fn put_fast_refuse<T>(
-    on: &Stack<T>,
+fn put_fast_refuse<T, D: Tie<T>>(
+    on: &Stack<T, D>,
     by: running::Pass<T, Line<T>>,
     value: T,
     put: &Operation<T>,
@@ -100,8 +103,8 @@ fn put_fast_refuse<T>(
     running::Pass<T, Line<T>>,
     Next<PutAt<T>, Answered<Answer<T>>>,
 )
-    requires stands { PutStands on.now put.now by (Refuse value) }
-    ensures ran { PutRan on.now put.now by result.0 result.1 }
+    requires stands { PutStands D.rule on.now put.now by (Refuse value) }
+    ensures ran { PutRan D.rule on.now put.now by result.0 result.1 }
     ensures took { (pass_now result.0).steps ≤ (pass_now by).steps + 1 }
 {
     any(&on.table.shared, on, by, PutAt::Refuse(value), put)
@@ -109,8 +112,8 @@ fn put_fast_refuse<T>(
 
 // Then the steps that put the node onto the top.
 #[inline]
-fn put_fast_top<T>(
-    on: &Stack<T>,
+fn put_fast_top<T, D: Tie<T>>(
+    on: &Stack<T, D>,
     by: running::Pass<T, Line<T>>,
     has_node: PutAt<T>,
     put: &Operation<T>,
@@ -118,8 +121,8 @@ fn put_fast_top<T>(
     running::Pass<T, Line<T>>,
     Next<PutAt<T>, Answered<Answer<T>>>,
 )
-    requires stands { PutStands on.now put.now by has_node }
-    ensures ran { PutRan on.now put.now by result.0 result.1 }
+    requires stands { PutStands D.rule on.now put.now by has_node }
+    ensures ran { PutRan D.rule on.now put.now by result.0 result.1 }
     ensures took { (pass_now result.0).steps ≤ (pass_now by).steps + 3 }
 {
     let PutAt::Load(shown, index) = has_node else {
@@ -182,13 +185,7 @@ impl<T> Stack<T> {
             (is_call (PutCall value)) (pass_in by) result.0 result.1 }
         ensures new { HasNewCall by result.0 }
     {
-        let Pass { pass, .. } = by;
-        let put = put_operation(&value);
-        // Looked at here, before a call copies it, so that the answer need not go through memory.
-        match put_fast(self, pass, value, &put) {
-            (pass, Next::Done(answer)) => told(pass, answer),
-            under_way => whole(rt, self, under_way, put),
-        }
+        self.put_as(rt, by, value)
     }
 
     /// Puts a value on the fast path alone, with a wait of at most 640 spin hints if a
@@ -213,6 +210,39 @@ impl<T> Stack<T> {
                 Stepped::Done(back, reply)
             }
             under_way => leave(self, under_way, put),
+        }
+    }
+}
+
+impl<T, D: Tie<T>> Stack<T, D> {
+    /// Puts a value as `put` does, in a stack with a rule of its client. The caller shows that the
+    /// put keeps the rule, whichever history it finds at its effect. What its pass has then seen
+    /// keeps the rule, whatever the answer is.
+    #[inline(always)]
+    pub fn put_as<R: Wait>(
+        &self,
+        rt: &R,
+        by: Pass<T>,
+        value: T,
+    ) -> (Pass<T>, Result<u64, PutRefused<T>>)
+        requires pass { IsPassWith D.rule self.now by }
+        requires deal { PutDeals (shape_of self.now) D.rule (pass_in by) value }
+        ensures of { IsPassWith D.rule self.now result.0 }
+        ensures tied { D.rule (pass_in result.0).seen }
+        ensures gives { PutGives (shape_of self.now) (pass_in by) value (pass_in result.0)
+            result.1 }
+        ensures answered { Answers (pass_in by) (pass_in result.0) (put_answered result.1) }
+        ensures ran { WasRun (machine_with D.rule self.now)
+            (put_account self.now.table.shared.key)
+            (is_call (PutCall value)) (pass_in by) result.0 result.1 }
+        ensures new { HasNewCall by result.0 }
+    {
+        let Pass { pass, .. } = by;
+        let put = put_operation(&value);
+        // Looked at here, before a call copies it, so that the answer need not go through memory.
+        match put_fast(self, pass, value, &put) {
+            (pass, Next::Done(answer)) => told(pass, answer),
+            under_way => whole(rt, self, under_way, put),
         }
     }
 }

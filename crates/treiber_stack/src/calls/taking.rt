@@ -22,25 +22,26 @@ ghost use Rattle.bounded_model.specs.declared.views.Answered.TheVariants.{Take a
 ghost use Rattle.running.specs.Kept.{HasNewCall, WasRun};
 ghost use Rattle.running.specs.Ops.{underway_of};
 ghost use Rattle.running.specs.Passes.{pass_in as pass_now};
+ghost use Rattle.running.specs.Ties.{TakeDeals};
 ghost use Rattle.stack_table.specs.declared.operation.Operation.TheVariants.{Take as TakeFirst};
 ghost use Rattle.treiber_stack.specs.code.Machine.{is_call};
-ghost use Rattle.treiber_stack.specs.Calls.{IsPassOf, machine_of, pass_in, shape_of, IsTaking, TakeTried};
-ghost use Rattle.treiber_stack.specs.code.Steps.{IsSeatOf, TakeStands, TakeRan};
+ghost use Rattle.treiber_stack.specs.Calls.{IsPassOf, IsPassWith, machine_of, machine_with, pass_in, shape_of, IsTaking, TakeTried};
+ghost use Rattle.treiber_stack.specs.code.Steps.{IsSeatWith, TakeStands, TakeRan};
 ghost use Rattle.treiber_stack.specs.code.Taking.{take_account};
 
 use crate::code::giving::Give;
 use crate::code::taking::{Answer, TakeAt, TakeOp};
 use crate::life::stack::{Answered, Pass, Stack};
 use bounded_model::{Stepped, TakeRefused};
-use running::{Next, Op, any, fast_step, first_step, leave, told, whole};
+use running::{Next, Op, Tie, any, fast_step, first_step, leave, told, whole};
 use stack_machine::Line;
 use stack_table::Operation;
 use std::sync::Wait;
 
 /// A take's steps on its fast path, as long as no other pass is faster.
 #[inline(always)]
-pub(crate) fn take_fast<T>(
-    on: &Stack<T>,
+pub(crate) fn take_fast<T, D: Tie<T>>(
+    on: &Stack<T, D>,
     by: running::Pass<T, Line<T>>,
     take: &Operation<T>,
 ) -> (
@@ -48,8 +49,9 @@ pub(crate) fn take_fast<T>(
     Next<TakeAt<T>, Answered<Answer<T>>>,
 )
     requires named { take.now ≡ TakeFirst }
-    requires pass { IsSeatOf on.now by }
-    ensures ran { TakeRan on.now take.now by result.0 result.1 }
+    requires pass { IsSeatWith D.rule on.now by }
+    requires deal { TakeDeals (shape_of on.now) D.rule (pass_now by) }
+    ensures ran { TakeRan D.rule on.now take.now by result.0 result.1 }
     ensures took { (pass_now result.0).steps ≤ (pass_now by).steps + 6 }
 {
     let (pass, at) = fast_step!(take_fast_top(on, by, take));
@@ -58,8 +60,8 @@ pub(crate) fn take_fast<T>(
 
 // First the steps that take the top node.
 #[inline]
-fn take_fast_top<T>(
-    on: &Stack<T>,
+fn take_fast_top<T, D: Tie<T>>(
+    on: &Stack<T, D>,
     by: running::Pass<T, Line<T>>,
     take: &Operation<T>,
 ) -> (
@@ -67,8 +69,9 @@ fn take_fast_top<T>(
     Next<TakeAt<T>, Answered<Answer<T>>>,
 )
     requires named { take.now ≡ TakeFirst }
-    requires pass { IsSeatOf on.now by }
-    ensures ran { TakeRan on.now take.now by result.0 result.1 }
+    requires pass { IsSeatWith D.rule on.now by }
+    requires deal { TakeDeals (shape_of on.now) D.rule (pass_now by) }
+    ensures ran { TakeRan D.rule on.now take.now by result.0 result.1 }
     ensures took { (pass_now result.0).steps ≤ (pass_now by).steps + 3 }
 {
     let table = &on.table.shared;
@@ -85,8 +88,8 @@ fn take_fast_top<T>(
 
 // Then the steps that give it back.
 #[inline]
-fn take_fast_back<T>(
-    on: &Stack<T>,
+fn take_fast_back<T, D: Tie<T>>(
+    on: &Stack<T, D>,
     by: running::Pass<T, Line<T>>,
     won: TakeAt<T>,
     take: &Operation<T>,
@@ -95,8 +98,8 @@ fn take_fast_back<T>(
     Next<TakeAt<T>, Answered<Answer<T>>>,
 )
     requires named { take.now ≡ TakeFirst }
-    requires stands { TakeStands on.now by won }
-    ensures ran { TakeRan on.now take.now by result.0 result.1 }
+    requires stands { TakeStands D.rule on.now by won }
+    ensures ran { TakeRan D.rule on.now take.now by result.0 result.1 }
     ensures took { (pass_now result.0).steps ≤ (pass_now by).steps + 3 }
 {
     let TakeAt::GiveBack(taken, Give::Load) = won else {
@@ -145,13 +148,7 @@ impl<T> Stack<T> {
             (is_call TakeCall) (pass_in by) result.0 result.1 }
         ensures new { HasNewCall by result.0 }
     {
-        let Pass { pass, .. } = by;
-        let take = Operation::Take;
-        // Looked at here for the same reason as in `put`.
-        match take_fast(self, pass, &take) {
-            (pass, Next::Done(answer)) => told(pass, answer),
-            under_way => whole(rt, self, under_way, take),
-        }
+        self.take_as(rt, by)
     }
 
     /// Takes a value on the fast path alone, as `put_at_once` puts one. The call makes at most 6
@@ -174,6 +171,31 @@ impl<T> Stack<T> {
                 Stepped::Done(back, reply)
             }
             under_way => leave(self, under_way, take),
+        }
+    }
+}
+
+impl<T, D: Tie<T>> Stack<T, D> {
+    /// Takes a value as `take` does, in a stack with a rule of its client, as `put_as` puts one.
+    #[inline(always)]
+    pub fn take_as<R: Wait>(&self, rt: &R, by: Pass<T>) -> (Pass<T>, Result<(T, u64), TakeRefused>)
+        requires pass { IsPassWith D.rule self.now by }
+        requires deal { TakeDeals (shape_of self.now) D.rule (pass_in by) }
+        ensures of { IsPassWith D.rule self.now result.0 }
+        ensures tied { D.rule (pass_in result.0).seen }
+        ensures gives { TakeGives (shape_of self.now) (pass_in by) (pass_in result.0) result.1 }
+        ensures answered { Answers (pass_in by) (pass_in result.0) (TakeAnswered result.1) }
+        ensures ran { WasRun (machine_with D.rule self.now)
+            (take_account self.now.table.shared.key)
+            (is_call TakeCall) (pass_in by) result.0 result.1 }
+        ensures new { HasNewCall by result.0 }
+    {
+        let Pass { pass, .. } = by;
+        let take = Operation::Take;
+        // Looked at here for the same reason as in `put_as`.
+        match take_fast(self, pass, &take) {
+            (pass, Next::Done(answer)) => told(pass, answer),
+            under_way => whole(rt, self, under_way, take),
         }
     }
 }

@@ -8,7 +8,7 @@ use crate::rule::Stacked;
 use atomic_table::Seat;
 use bounded_model::Reply;
 use machine::View;
-use running::{Access, Code, Next, Op, Outcome, Replies};
+use running::{Access, Code, Next, Op, Outcome, Replies, Tie};
 use stack_machine::Line;
 use stack_table::Operation;
 use stack_table::layout::STACK_LIST;
@@ -72,13 +72,14 @@ impl Mark {
     }
 }
 
-impl<T> Code<Stack<T>, T, Line<T>, Operation<T>, Stacked, Answered<bool>, 2> for MarkAt {
+impl<T, D: Tie<T>> Code<Stack<T, D>, T, Line<T>, Operation<T>, Stacked<D>, Answered<bool>, 2>
+    for MarkAt {
     ghost use Rattle.treiber_stack.specs.code.Closing.{mark_account};
 
     ghost account = { mark_account };
 
     #[inline(always)]
-    fn access(&self, _on: &Stack<T>) -> Access {
+    fn access(&self, _on: &Stack<T, D>) -> Access {
         match self {
             MarkAt::Load(_) => Access::LoadTop(STACK_LIST),
             MarkAt::Set(Mark::Closed, top) => Access::Mark(STACK_LIST, *top),
@@ -89,7 +90,7 @@ impl<T> Code<Stack<T>, T, Line<T>, Operation<T>, Stacked, Answered<bool>, 2> for
     #[inline(always)]
     fn next(
         self,
-        _on: &Stack<T>,
+        _on: &Stack<T, D>,
         _seat: &mut Seat<Option<T>, View<T, Line<T>>>,
         outcome: Outcome,
     ) -> Next<MarkAt, Answered<bool>> {
@@ -118,7 +119,8 @@ impl<T> Code<Stack<T>, T, Line<T>, Operation<T>, Stacked, Answered<bool>, 2> for
 }
 
 // The answer is whether this operation set the mark.
-impl<T> Replies<Stack<T>, T, Line<T>, Operation<T>, Stacked, (), bool, 2> for MarkAt {
+impl<T, D: Tie<T>> Replies<Stack<T, D>, T, Line<T>, Operation<T>, Stacked<D>, (), bool, 2>
+    for MarkAt {
     ghost use Rattle.std.specs.Prelude.{refl};
     ghost use Rattle.treiber_stack.specs.code.KeepsAnswers.{mark_given, mark_promises};
 
@@ -126,7 +128,7 @@ impl<T> Replies<Stack<T>, T, Line<T>, Operation<T>, Stacked, (), bool, 2> for Ma
 
     ghost idle = { λ key o answer. refl };
 
-    ghost given = { mark_given };
+    ghost given = { mark_given D.rule };
 
     ghost kept = { λ key o answer. tt };
 }

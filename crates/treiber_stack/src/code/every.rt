@@ -1,7 +1,7 @@
 //! Every call of a stack as one operation.
 ghost use Rattle.std.specs.Prelude.{◌≡◌};
 ghost use Rattle.bounded_model.specs.declared.commands.Command.TheVariants.{Put as PutCall, Take as TakeCall, Look as LookCall};
-ghost use Rattle.treiber_stack.specs.Calls.{IsLooking, IsPutting, Stack, IsMakingCall, IsTaking};
+ghost use Rattle.treiber_stack.specs.Calls.{IsLooking, IsPutting, Stack as FreeStack, IsMakingCall, IsTaking};
 
 use crate::code::closing::MarkAt;
 use crate::code::looking::{LookAt, LookOp};
@@ -12,7 +12,7 @@ use crate::rule::Stacked;
 use atomic_table::Seat;
 use bounded_model::Reply;
 use machine::View;
-use running::{Access, Code, Next, Op, Outcome, Replies};
+use running::{Access, Code, Next, Op, Outcome, Replies, Tie};
 use stack_machine::Line;
 use stack_table::Operation;
 
@@ -32,7 +32,8 @@ impl<T> StackAt<T> {
     /// A put that was begun, as an operation of any call.
     #[inline(always)]
     pub fn of_put(op: PutOp<T>) -> AnyOp<T>
-        ensures makes { (c : Stack T) (x : T) → IsPutting c x op → IsMakingCall c (PutCall x) result }
+        ensures makes { (c : FreeStack T) (x : T) → IsPutting c x op
+            → IsMakingCall c (PutCall x) result }
         ensures same { result.pass ≡ op.pass }
     {
         let Op {
@@ -50,7 +51,7 @@ impl<T> StackAt<T> {
     /// A take that was begun, as an operation of any call.
     #[inline(always)]
     pub fn of_take(op: TakeOp<T>) -> AnyOp<T>
-        ensures makes { (c : Stack T) → IsTaking c op → IsMakingCall c TakeCall result }
+        ensures makes { (c : FreeStack T) → IsTaking c op → IsMakingCall c TakeCall result }
         ensures same { result.pass ≡ op.pass }
     {
         let Op {
@@ -68,7 +69,7 @@ impl<T> StackAt<T> {
     /// A look that was begun, as an operation of any call.
     #[inline(always)]
     pub fn of_look(op: LookOp<T>) -> AnyOp<T>
-        ensures makes { (c : Stack T) → IsLooking c op → IsMakingCall c LookCall result }
+        ensures makes { (c : FreeStack T) → IsLooking c op → IsMakingCall c LookCall result }
         ensures same { result.pass ≡ op.pass }
     {
         let Op {
@@ -84,7 +85,8 @@ impl<T> StackAt<T> {
     }
 }
 
-impl<T> Code<Stack<T>, T, Line<T>, Operation<T>, Stacked, Answered<Reply<T>>, 2> for StackAt<T> {
+impl<T, D: Tie<T>> Code<Stack<T, D>, T, Line<T>, Operation<T>, Stacked<D>, Answered<Reply<T>>, 2>
+    for StackAt<T> {
     ghost use Rattle.treiber_stack.specs.code.Every.{every_account};
 
     ghost account = { every_account };
@@ -99,7 +101,7 @@ impl<T> Code<Stack<T>, T, Line<T>, Operation<T>, Stacked, Answered<Reply<T>>, 2>
     }
 
     #[inline(always)]
-    fn access(&self, on: &Stack<T>) -> Access {
+    fn access(&self, on: &Stack<T, D>) -> Access {
         match self {
             StackAt::Put(at) => at.access(on),
             StackAt::Take(at) => at.access(on),
@@ -111,7 +113,7 @@ impl<T> Code<Stack<T>, T, Line<T>, Operation<T>, Stacked, Answered<Reply<T>>, 2>
     #[inline(always)]
     fn next(
         self,
-        on: &Stack<T>,
+        on: &Stack<T, D>,
         seat: &mut Seat<Option<T>, View<T, Line<T>>>,
         outcome: Outcome,
     ) -> Next<StackAt<T>, Answered<Reply<T>>> {
@@ -167,7 +169,8 @@ impl<T> Code<Stack<T>, T, Line<T>, Operation<T>, Stacked, Answered<Reply<T>>, 2>
     }
 }
 
-impl<T> Replies<Stack<T>, T, Line<T>, Operation<T>, Stacked, (), Reply<T>, 2> for StackAt<T> {
+impl<T, D: Tie<T>> Replies<Stack<T, D>, T, Line<T>, Operation<T>, Stacked<D>, (), Reply<T>, 2>
+    for StackAt<T> {
     ghost use Rattle.std.specs.Prelude.{refl};
     ghost use Rattle.treiber_stack.specs.code.KeepsEvery.{every_given, every_promises};
 
@@ -175,7 +178,7 @@ impl<T> Replies<Stack<T>, T, Line<T>, Operation<T>, Stacked, (), Reply<T>, 2> fo
 
     ghost idle = { λ key o answer. refl };
 
-    ghost given = { every_given };
+    ghost given = { every_given D.rule };
 
     ghost kept = { λ key o answer. tt };
 }

@@ -9,7 +9,7 @@ ghost use Rattle.treiber_stack.specs.code.Giving.{AreNodes, give_line};
 ghost use Rattle.treiber_stack.specs.Calls.{machine_of, room_of};
 
 use crate::life::stack::Stack;
-use running::{Access, Next, Outcome};
+use running::{Access, Next, Outcome, Tie};
 use stack_table::layout::FREE_LIST;
 use tagged_index::Tagged;
 
@@ -46,7 +46,7 @@ pub enum Give {
 
 /// What the next step of giving a chain back does.
 #[inline(always)]
-pub(crate) fn give_access<T>(on: &Stack<T>, chain: Chain, at: &Give) -> Access
+pub(crate) fn give_access<T, D: Tie<T>>(on: &Stack<T, D>, chain: Chain, at: &Give) -> Access
     requires { (chain.first < room_of on.now) × (chain.last < room_of on.now) }
     ensures { (giving : Giving T) → AreNodes (room_of on.now) giving.chain chain
         → IsAccess (machine_of on.now).core lists 2 on.now.table.shared.table_id.words
@@ -61,7 +61,11 @@ pub(crate) fn give_access<T>(on: &Stack<T>, chain: Chain, at: &Give) -> Access
 
 /// Where the operation continues after a step that came to this.
 #[inline(always)]
-pub(crate) fn give_next<T>(on: &Stack<T>, at: Give, outcome: Outcome) -> Next<Give, ()>
+pub(crate) fn give_next<T, D: Tie<T>>(
+    on: &Stack<T, D>,
+    at: Give,
+    outcome: Outcome,
+) -> Next<Give, ()>
     ensures { (giving : Giving T) (has : List (ℕ × Slot T))
         → GaveTo on.now giving at outcome has result }
 {

@@ -5,7 +5,7 @@ use crate::life::stack::{Answered, Stack};
 use crate::rule::Stacked;
 use atomic_table::Seat;
 use machine::View;
-use running::{Access, Code, Next, Op, Outcome, Replies};
+use running::{Access, Code, Next, Op, Outcome, Replies, Tie};
 use stack_machine::Line;
 use stack_table::Operation;
 use stack_table::layout::STACK_LIST;
@@ -21,13 +21,14 @@ pub enum LookAt {
     Load,
 }
 
-impl<T> Code<Stack<T>, T, Line<T>, Operation<T>, Stacked, Answered<bool>, 2> for LookAt {
+impl<T, D: Tie<T>> Code<Stack<T, D>, T, Line<T>, Operation<T>, Stacked<D>, Answered<bool>, 2>
+    for LookAt {
     ghost use Rattle.treiber_stack.specs.code.Looking.{look_account};
 
     ghost account = { look_account };
 
     #[inline(always)]
-    fn access(&self, _on: &Stack<T>) -> Access {
+    fn access(&self, _on: &Stack<T, D>) -> Access {
         match self {
             LookAt::Load => Access::LoadTop(STACK_LIST),
         }
@@ -36,7 +37,7 @@ impl<T> Code<Stack<T>, T, Line<T>, Operation<T>, Stacked, Answered<bool>, 2> for
     #[inline(always)]
     fn next(
         self,
-        _on: &Stack<T>,
+        _on: &Stack<T, D>,
         _seat: &mut Seat<Option<T>, View<T, Line<T>>>,
         outcome: Outcome,
     ) -> Next<LookAt, Answered<bool>> {
@@ -49,7 +50,8 @@ impl<T> Code<Stack<T>, T, Line<T>, Operation<T>, Stacked, Answered<bool>, 2> for
     }
 }
 
-impl<T> Replies<Stack<T>, T, Line<T>, Operation<T>, Stacked, (), bool, 2> for LookAt {
+impl<T, D: Tie<T>> Replies<Stack<T, D>, T, Line<T>, Operation<T>, Stacked<D>, (), bool, 2>
+    for LookAt {
     ghost use Rattle.std.specs.Prelude.{refl};
     ghost use Rattle.treiber_stack.specs.code.KeepsAnswers.{look_given, look_promises};
 
@@ -57,7 +59,7 @@ impl<T> Replies<Stack<T>, T, Line<T>, Operation<T>, Stacked, (), bool, 2> for Lo
 
     ghost idle = { λ key o answer. refl };
 
-    ghost given = { look_given };
+    ghost given = { look_given D.rule };
 
     ghost kept = { λ key o answer. tt };
 }

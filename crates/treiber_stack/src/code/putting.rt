@@ -10,7 +10,7 @@ use atomic_table::Seat;
 use bounded_model::{PutRefused, Word};
 use index_list::{move_out, put_in};
 use machine::View;
-use running::{Access, Code, Next, Op, Outcome, Replies};
+use running::{Access, Code, Next, Op, Outcome, Replies, Tie};
 use stack_machine::Line;
 use stack_table::Operation;
 use stack_table::layout::{FREE_LIST, STACK_LIST};
@@ -44,7 +44,8 @@ pub enum PutAt<T> {
 /// What a put answers.
 pub(crate) type Answer<T> = Result<u64, PutRefused<T>>;
 
-impl<T> Code<Stack<T>, T, Line<T>, Operation<T>, Stacked, Answered<Answer<T>>, 2> for PutAt<T> {
+impl<T, D: Tie<T>> Code<Stack<T, D>, T, Line<T>, Operation<T>, Stacked<D>, Answered<Answer<T>>, 2>
+    for PutAt<T> {
     ghost use Rattle.treiber_stack.specs.code.Putting.{put_account};
 
     ghost account = { put_account };
@@ -55,7 +56,7 @@ impl<T> Code<Stack<T>, T, Line<T>, Operation<T>, Stacked, Answered<Answer<T>>, 2
     }
 
     #[inline(always)]
-    fn access(&self, on: &Stack<T>) -> Access {
+    fn access(&self, on: &Stack<T, D>) -> Access {
         match self {
             PutAt::LoadFree(_) => Access::LoadTop(FREE_LIST),
             PutAt::Link(_, free) => Access::LoadLink(FREE_LIST, free.index()),
@@ -73,7 +74,7 @@ impl<T> Code<Stack<T>, T, Line<T>, Operation<T>, Stacked, Answered<Answer<T>>, 2
     #[inline(always)]
     fn next(
         self,
-        on: &Stack<T>,
+        on: &Stack<T, D>,
         seat: &mut Seat<Option<T>, View<T, Line<T>>>,
         outcome: Outcome,
     ) -> Next<PutAt<T>, Answered<Answer<T>>> {
@@ -155,7 +156,8 @@ impl<T> Code<Stack<T>, T, Line<T>, Operation<T>, Stacked, Answered<Answer<T>>, 2
 // - with a free node: `Closed`, else `Spent` if the tag of the top is at its limit;
 // - without one: `Closed`, else `Spent`, else `Full`;
 // - `Spent` if the tag of the free nodes' top is at its limit.
-impl<T> Replies<Stack<T>, T, Line<T>, Operation<T>, Stacked, (), Answer<T>, 2> for PutAt<T> {
+impl<T, D: Tie<T>> Replies<Stack<T, D>, T, Line<T>, Operation<T>, Stacked<D>, (), Answer<T>, 2>
+    for PutAt<T> {
     ghost use Rattle.std.specs.Prelude.{refl};
     ghost use Rattle.treiber_stack.specs.code.KeepsAnswers.{put_given};
     ghost use Rattle.treiber_stack.specs.code.KeepsAnswers.{put_promises};
@@ -164,7 +166,7 @@ impl<T> Replies<Stack<T>, T, Line<T>, Operation<T>, Stacked, (), Answer<T>, 2> f
 
     ghost idle = { λ key o answer. refl };
 
-    ghost given = { put_given };
+    ghost given = { put_given D.rule };
 
     ghost kept = { λ key o answer. tt };
 }

@@ -5,6 +5,7 @@ ghost use Rattle.treiber_stack.specs.Calls.{limit_of};
 
 use crate::life::stack::Stack;
 use bounded_model::{PutRefused, RangeRefused, TakeRefused, Word};
+use running::Tie;
 use tagged_index::{NULL, Tagged};
 
 /// Why nothing may be put onto a top, whether there is a node or not.
@@ -49,7 +50,7 @@ impl Barred {
 
 /// Why a pass that has read this top puts nothing.
 #[inline]
-pub(crate) fn bars_put<T>(on: &Stack<T>, top: Tagged) -> Option<Barred>
+pub(crate) fn bars_put<T, D: Tie<T>>(on: &Stack<T, D>, top: Tagged) -> Option<Barred>
     ensures { MatchOption result (AllowsPut (limit_of on.now) top)
         (RefusesPut T (limit_of on.now) top) }
 {
@@ -64,7 +65,7 @@ pub(crate) fn bars_put<T>(on: &Stack<T>, top: Tagged) -> Option<Barred>
 
 /// Why a pass that has read this top of the free nodes gets no node.
 #[inline]
-pub(crate) fn bars_free<T>(on: &Stack<T>, free: Tagged) -> Option<NoNode>
+pub(crate) fn bars_free<T, D: Tie<T>>(on: &Stack<T, D>, free: Tagged) -> Option<NoNode>
     ensures { MatchOption result (AllowsNode (limit_of on.now) free)
         (RefusesNode (limit_of on.now) free) }
 {
@@ -79,7 +80,7 @@ pub(crate) fn bars_free<T>(on: &Stack<T>, free: Tagged) -> Option<NoNode>
 
 /// Why a pass that has read this top takes nothing.
 #[inline]
-pub(crate) fn bars_take<T>(on: &Stack<T>, top: Tagged) -> Option<TakeRefused>
+pub(crate) fn bars_take<T, D: Tie<T>>(on: &Stack<T, D>, top: Tagged) -> Option<TakeRefused>
     ensures { MatchOption result (AllowsTake (limit_of on.now) top)
         (RefusesTake T (limit_of on.now) top) }
 {

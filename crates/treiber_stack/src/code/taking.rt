@@ -9,7 +9,7 @@ use atomic_table::Seat;
 use bounded_model::TakeRefused;
 use index_list::move_out;
 use machine::View;
-use running::{Access, Code, Next, Op, Outcome, Replies};
+use running::{Access, Code, Next, Op, Outcome, Replies, Tie};
 use stack_machine::Line;
 use stack_table::Operation;
 use stack_table::layout::STACK_LIST;
@@ -42,7 +42,8 @@ pub struct Taken<T> {
 /// What a take answers.
 pub(crate) type Answer<T> = Result<(T, u64), TakeRefused>;
 
-impl<T> Code<Stack<T>, T, Line<T>, Operation<T>, Stacked, Answered<Answer<T>>, 2> for TakeAt<T> {
+impl<T, D: Tie<T>> Code<Stack<T, D>, T, Line<T>, Operation<T>, Stacked<D>, Answered<Answer<T>>, 2>
+    for TakeAt<T> {
     ghost use Rattle.treiber_stack.specs.code.Taking.{take_account};
 
     ghost account = { take_account };
@@ -53,7 +54,7 @@ impl<T> Code<Stack<T>, T, Line<T>, Operation<T>, Stacked, Answered<Answer<T>>, 2
     }
 
     #[inline(always)]
-    fn access(&self, on: &Stack<T>) -> Access {
+    fn access(&self, on: &Stack<T, D>) -> Access {
         match self {
             TakeAt::Load => Access::LoadTop(STACK_LIST),
             TakeAt::Link(top) => Access::LoadLink(STACK_LIST, top.index()),
@@ -65,7 +66,7 @@ impl<T> Code<Stack<T>, T, Line<T>, Operation<T>, Stacked, Answered<Answer<T>>, 2
     #[inline(always)]
     fn next(
         self,
-        on: &Stack<T>,
+        on: &Stack<T, D>,
         seat: &mut Seat<Option<T>, View<T, Line<T>>>,
         outcome: Outcome,
     ) -> Next<TakeAt<T>, Answered<Answer<T>>> {
@@ -110,7 +111,8 @@ impl<T> Code<Stack<T>, T, Line<T>, Operation<T>, Stacked, Answered<Answer<T>>, 2
 
 // The answer is the value with its number, or why the take took none: `Shut`, else `Closed` or
 // `Empty` if there is no value, else `Spent`.
-impl<T> Replies<Stack<T>, T, Line<T>, Operation<T>, Stacked, (), Answer<T>, 2> for TakeAt<T> {
+impl<T, D: Tie<T>> Replies<Stack<T, D>, T, Line<T>, Operation<T>, Stacked<D>, (), Answer<T>, 2>
+    for TakeAt<T> {
     ghost use Rattle.std.specs.Prelude.{refl};
     ghost use Rattle.treiber_stack.specs.code.KeepsAnswers.{take_given, take_promises};
 
@@ -118,7 +120,7 @@ impl<T> Replies<Stack<T>, T, Line<T>, Operation<T>, Stacked, (), Answer<T>, 2> f
 
     ghost idle = { λ key o answer. refl };
 
-    ghost given = { take_given };
+    ghost given = { take_given D.rule };
 
     ghost kept = { λ key o answer. tt };
 }

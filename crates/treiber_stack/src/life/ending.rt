@@ -3,20 +3,21 @@ ghost use Rattle.bounded_model.specs.Laws.{Leaves};
 ghost use Rattle.running.specs.Ends.{IsRun, IsRunAfter};
 ghost use Rattle.running.specs.Kept.{acts_of_root};
 ghost use Rattle.treiber_stack.specs.code.Left.{left_in};
-ghost use Rattle.treiber_stack.specs.Calls.{shape_of, machine_of, root_in, IsRootOf};
+ghost use Rattle.treiber_stack.specs.Calls.{shape_of, machine_with, root_in, IsRootWith};
 
 use crate::life::rest::Rest;
 use crate::life::stack::{Root, Stack};
+use running::Tie;
 
-impl<T> Stack<T> {
+impl<T, D: Tie<T>> Stack<T, D> {
     /// Ends the stack, and gives what is left, from the top down. A value that a pass held when it
     /// stopped in mid-operation is not among it. It is dropped with the rest. The stack has run as
     /// its machine runs.
     pub fn finish(self, parent: Root<T>) -> Rest<T>
-        requires { IsRootOf self parent }
+        requires { IsRootWith D.rule self parent }
         ensures leaves { Leaves (shape_of self) (root_in parent) (left_in result) }
-        ensures run { IsRun (machine_of self) (root_in parent) (left_in result) }
-        ensures all { IsRunAfter (machine_of self) (acts_of_root parent) (root_in parent)
+        ensures run { IsRun (machine_with D.rule self) (root_in parent) (left_in result) }
+        ensures all { IsRunAfter (machine_with D.rule self) (acts_of_root parent) (root_in parent)
             (left_in result) }
     {
         let Stack { table, .. } = self;

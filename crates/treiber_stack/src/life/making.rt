@@ -4,11 +4,12 @@ ghost use Rattle.tagged_index.specs.declared.word.TheConstants.{NULL};
 ghost use Rattle.bounded_model.specs.Laws.{fresh};
 ghost use Rattle.stack_table.specs.Layout.{words_for, start_at};
 ghost use Rattle.treiber_stack.specs.code.Machine.{shape_at};
-ghost use Rattle.treiber_stack.specs.Calls.{IsRootOf, root_in, shape_of};
+ghost use Rattle.treiber_stack.specs.Calls.{IsRootOf, IsRootWith, root_in, shape_of};
 
 use crate::life::stack::{Root, Stack};
 use atomic_table::Table;
 use bounded_model::MakeRefused;
+use running::{Free, Tie};
 use stack_table::layout;
 use std::alloc::{AllocError, Global};
 use tagged_index::Limits;
@@ -34,6 +35,17 @@ impl<T> Stack<T> {
     pub fn new(alloc: Global, limits: Limits) -> Result<(Stack<T>, Root<T>), MakeRefused>
         ensures { IfOk result (λ t. (t.0.table.shared.key ≡ limits)
             × IsRootOf t.0 t.1 × (root_in t.1 ≡ fresh)
+            × (shape_of t.0 ≡ shape_at limits)) }
+    {
+        Stack::<T, Free>::new_tied(alloc, limits)
+    }
+}
+
+impl<T, D: Tie<T>> Stack<T, D> {
+    /// Like `new`, for a stack whose history keeps the rule `D`.
+    pub fn new_tied(alloc: Global, limits: Limits) -> Result<(Stack<T, D>, Root<T>), MakeRefused>
+        ensures { IfOk result (λ t. (t.0.table.shared.key ≡ limits)
+            × IsRootWith D.rule t.0 t.1 × (root_in t.1 ≡ fresh)
             × (shape_of t.0 ≡ shape_at limits)) }
     {
         let words = first_words(alloc, limits.capacity())?;

@@ -6,7 +6,7 @@ ghost use Rattle.stack_table.specs.Layout.{words_for};
 use crate::rule::Stacked;
 use atomic_table::{Shared, Table};
 use machine::View;
-use running::{HasTable, Keeping, OnTable, Running};
+use running::{Free, HasTable, Keeping, OnTable, Running, Tie};
 use stack_machine::Line;
 use stack_table::Operation;
 use stack_table::layout::FREE;
@@ -14,11 +14,18 @@ use std::alloc::Global;
 use tagged_index::Limits;
 
 /// A bounded stack, last in, first out, that many threads share by `&`, each with a pass of its
-/// own. Its table has two lists: the stack and the free nodes.
+/// own. Its table has two lists: the stack and the free nodes. Its history keeps the rule `D`,
+/// which a client may give it.
 #[derive(Drop)]
-pub struct Stack<T> {
+pub struct Stack<T, D: Tie<T> = Free> {
     /// The words and values. Only calls change them.
-    pub table: Table<Option<T>, View<T, Line<T>>, Limits, Running<Operation<T>, Stacked>, Global>,
+    pub table: Table<
+        Option<T>,
+        View<T, Line<T>>,
+        Limits,
+        Running<Operation<T>, Stacked<D>>,
+        Global,
+    >,
     /// What it was made with: the key of its table.
     pub limits: Limits,
     pub ghost keyed: { table.shared.key ≡ limits },
@@ -40,7 +47,7 @@ pub type Note<T> = running::Note<T, Line<T>>;
 /// What an operation has answered. A stack's pass keeps nothing between its calls.
 pub type Answered<R> = running::Answered<(), R>;
 
-impl<T> OnTable for Stack<T> {
+impl<T, D: Tie<T>> OnTable for Stack<T, D> {
     ghost key = { λ c. c.table.shared.key };
 
     ghost id = { λ c. c.table.shared.table_id };
@@ -52,16 +59,16 @@ impl<T> OnTable for Stack<T> {
     }
 }
 
-impl<T> HasTable<T, Line<T>, Operation<T>, Stacked> for Stack<T> {
+impl<T, D: Tie<T>> HasTable<T, Line<T>, Operation<T>, Stacked<D>> for Stack<T, D> {
     #[inline(always)]
     fn table(
         &self,
-    ) -> &Shared<Option<T>, View<T, Line<T>>, Limits, Running<Operation<T>, Stacked>> {
+    ) -> &Shared<Option<T>, View<T, Line<T>>, Limits, Running<Operation<T>, Stacked<D>>> {
         &self.table.shared
     }
 }
 
-impl<T> Keeping<Line<T>, ()> for Stack<T> {
+impl<T, D: Tie<T>> Keeping<Line<T>, ()> for Stack<T, D> {
     ghost use Rattle.treiber_stack.specs.Calls.{keeps};
 
     ghost keeps = { keeps };

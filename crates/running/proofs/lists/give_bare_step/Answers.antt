@@ -20,7 +20,7 @@ returns-clause-seat g c = let t = c.try_give in (
 )
 
 pub returns-clause-won : goal.returns-clause-won
-returns-clause-won g c h = let won = c.try_give.ensures.won h in unmoved (g.M.Machine.machine c.args.table.now.key) g.M.ListMachine.lists true won (won.moves.1 ∙ none_carried _ c.requires.carries)
+returns-clause-won g c h = let won = c.try_give.ensures.won h in unmoved (g.met.M.Lawful.lawful c.args.table.now.key) g.M.ListMachine.lists true won (won.moves.1 ∙ none_carried _ c.requires.carries)
 
 pub returns-clause-lost : goal.returns-clause-lost
-returns-clause-lost g c h = (missed (g.M.Machine.machine c.args.table.now.key) g.M.ListMachine.lists (c.try_give.ensures.lost h)).1
+returns-clause-lost g c h = (missed (g.met.M.Lawful.lawful c.args.table.now.key) g.M.ListMachine.lists (c.try_give.ensures.lost h)).1

@@ -12,7 +12,7 @@ try_give_chain-requires-clause-slots g c = let a = c.args in let me = a.seat.now
     (me.1, subst (λ (b : Bool). Rests (g.M.Machine.machine c.args.table.now.key) g.M.ListMachine.lists b a.operation.now me.0 me.1) (sym c.requires.carries) c.requires.fits, ([], no_more me.1))
 
 pub returns-clause-won : goal.returns-clause-won
-returns-clause-won g c h = returned (g.M.Machine.machine c.args.table.now.key) g.M.ListMachine.lists (ap (λ (b : Bool). side b (GiveChain c.args.first)) c.requires.carries) c.requires.fits (c.try_give_chain.ensures.won h)
+returns-clause-won g c h = returned (g.met.M.Lawful.lawful c.args.table.now.key) g.M.ListMachine.lists (ap (λ (b : Bool). side b (GiveChain c.args.first)) c.requires.carries) c.requires.fits (c.try_give_chain.ensures.won h)
 
 pub returns-clause-lost : goal.returns-clause-lost
-returns-clause-lost g c h = missed (g.M.Machine.machine c.args.table.now.key) g.M.ListMachine.lists (c.try_give_chain.ensures.lost h)
+returns-clause-lost g c h = missed (g.met.M.Lawful.lawful c.args.table.now.key) g.M.ListMachine.lists (c.try_give_chain.ensures.lost h)

@@ -8,4 +8,4 @@ pub returns-clause-seat : goal.returns-clause-seat
 returns-clause-seat g c = (c.load_link.ensures.seat.0, c.load_link.ensures.step.0)
 
 pub returns-clause-steps : goal.returns-clause-steps
-returns-clause-steps g c = λ begun l going. steps_so (g.M.Machine.machine c.args.table.now.key) going c.load_link.ensures.step.1.said
+returns-clause-steps g c = λ begun l going. steps_so (g.met.M.Lawful.lawful c.args.table.now.key) going c.load_link.ensures.step.1.said

@@ -6,11 +6,11 @@ try_mark-requires-clause-may g c = (c.requires.access, tt)
 
 pub returns-clause-seat : goal.returns-clause-seat
 returns-clause-seat g c = let t = c.try_mark in
-    (t.ensures.seat.0, bare_seat (g.M.Machine.machine c.args.table.now.key) g.M.ListMachine.lists t.result t.ensures.won (λ xs. no_indexes (g.M.ListMachine.lists.layout.carries c.args.list)) t.ensures.lost)
+    (t.ensures.seat.0, bare_seat (g.met.M.Lawful.lawful c.args.table.now.key) g.M.ListMachine.lists t.result t.ensures.won (λ xs. no_indexes (g.M.ListMachine.lists.layout.carries c.args.list)) t.ensures.lost)
 
 pub returns-clause-won : goal.returns-clause-won
 returns-clause-won g c = let t = c.try_mark in
-    bare_won (g.M.Machine.machine c.args.table.now.key) g.M.ListMachine.lists t.result t.ensures.won (λ xs. no_indexes (g.M.ListMachine.lists.layout.carries c.args.list))
+    bare_won (g.met.M.Lawful.lawful c.args.table.now.key) g.M.ListMachine.lists t.result t.ensures.won (λ xs. no_indexes (g.M.ListMachine.lists.layout.carries c.args.list))
 
 pub returns-clause-lost : goal.returns-clause-lost
-returns-clause-lost g c h = (missed (g.M.Machine.machine c.args.table.now.key) g.M.ListMachine.lists (c.try_mark.ensures.lost h)).1
+returns-clause-lost g c h = (missed (g.met.M.Lawful.lawful c.args.table.now.key) g.M.ListMachine.lists (c.try_mark.ensures.lost h)).1

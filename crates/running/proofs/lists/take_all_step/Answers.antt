@@ -8,7 +8,7 @@ pub try_take_all-requires-clause-may : goal.try_take_all-requires-clause-may
 try_take_all-requires-clause-may g c = (c.requires.access, tt)
 
 pub returns-clause-won : goal.returns-clause-won
-returns-clause-won g c h = brought (g.M.Machine.machine c.args.table.now.key) g.M.ListMachine.lists (ap (λ (b : Bool). side b (TakeAll c.args.front)) c.requires.carries) (c.try_take_all.ensures.won h)
+returns-clause-won g c h = brought (g.met.M.Lawful.lawful c.args.table.now.key) g.M.ListMachine.lists (ap (λ (b : Bool). side b (TakeAll c.args.front)) c.requires.carries) (c.try_take_all.ensures.won h)
 
 pub returns-clause-lost : goal.returns-clause-lost
-returns-clause-lost g c h = missed (g.M.Machine.machine c.args.table.now.key) g.M.ListMachine.lists (c.try_take_all.ensures.lost h)
+returns-clause-lost g c h = missed (g.met.M.Lawful.lawful c.args.table.now.key) g.M.ListMachine.lists (c.try_take_all.ensures.lost h)

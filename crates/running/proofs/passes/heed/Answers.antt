@@ -1,8 +1,9 @@
-use Rattle.std.proofs.Common.{ap, ◌∙◌}
-use Rattle.running.specs.Rule.{line_in}
+use Rattle.std.proofs.Common.{ap, ◌∙◌, subst, sym}
+use Rattle.running.specs.Rule.{HasTied, line_in}
 use Rattle.machine.proofs.SeatedCalls.{heed_view}
 use Rattle.running.proofs.Acts.{note_takes}
 use Rattle.running.proofs.Going.{rests_view, rests_still}
+use Rattle.running.proofs.Tied.{both_tied, left_tied, note_tied, pass_tied, tied_pass}
 use Rattle.running.proofs.Uniting.{unites_note, looks_note, cuts_note}
 use Rattle.running.proofs.passes.heed.Goals as goal
 
@@ -33,6 +34,8 @@ returns-clause-of g c =
         view = rests_view m (line_in g.M.Machine.names c.args.by.now.seat.me.0) c.split_seat.new.seat.me.0 v.pass;
         slots = ap (λ m. m.1) e.left ∙ c.look_round.ensures.seat.1 ∙ ap (λ m. m.1) c.join_seats.ensures.both ∙ c.requires.pass.rests.slots;
         rests = v.rests c.requires.pass.rests.rests;
+        tied = tied_pass m c.split_seat.new.seat.me.0 _ v.pass (subst (HasTied m) (sym (ap (λ m. m.0) e.left)) (left_tied m c.look_round.new.seat.me.0 (c.look_round.ensures.tied (subst (HasTied m) (sym (ap (λ m. m.0) c.join_seats.ensures.both))
+            (both_tied m c.args.by.now.seat.me.0 c.args.note.seat.me.0 (pass_tied m c.args.by.now.seat.me.0 _ c.requires.pass.rests.view c.requires.pass.rests.tied) (note_tied m c.args.note.seat.me.0 c.requires.note.view c.requires.note.tied))))));
       };
     }
 

@@ -1,10 +1,11 @@
 use Rattle.std.proofs.Common.{◌≡◌, ℕ, ◌+◌, ◌-◌, ◌<◌, length, arith, ap, ◌∙◌, sym, subst}
 use Rattle.bounded_model.specs.declared.views.RootView.{RootView}
 use Rattle.machine.specs.Seats.{root_of}
-use Rattle.running.specs.Rule.{line_in}
+use Rattle.running.specs.Rule.{HasTied, line_in}
 use Rattle.machine.proofs.SeatedCalls.{join_view, was_out}
 use Rattle.running.specs.Passes.{root_in, pass_in}
 use Rattle.running.proofs.Acts.{root_takes}
+use Rattle.running.proofs.Tied.{both_tied, pass_tied, root_tied, tied_root}
 use Rattle.running.proofs.Uniting.{unites_root, looks_root}
 use Rattle.running.proofs.passes.join.Goals as goal
 
@@ -44,7 +45,9 @@ returns-clause-root g c =
       slots = c.look_round.ensures.seat.1 ∙ ap (λ m. m.1) c.join_seats.ensures.both ∙ c.requires.root.slots;
       sound = v.sound;
       counted = counted;
-      stock = subst (m.core.IsStock (out - 1)) (sym v.line) (m.laws.takes_stock (out - 1) _ by (subst (λ (k : ℕ). m.core.IsStock k (line_in g.M.Machine.names c.args.parent.now.seat.me.0)) before c.requires.root.stock) (m.laws.calm (line_in g.M.Machine.names c.args.by.seat.me.0)));
+      stock = subst (m.core.IsStock (out - 1)) (sym v.line) ((g.met.M.Lawful.lawful c.args.table.now.key).laws.takes_stock (out - 1) _ by (subst (λ (k : ℕ). m.core.IsStock k (line_in g.M.Machine.names c.args.parent.now.seat.me.0)) before c.requires.root.stock) (g.M.Machine.names.calm (line_in g.M.Machine.names c.args.by.seat.me.0)));
+      tied = tied_root m c.look_round.new.seat.me.0 _ v.root (c.look_round.ensures.tied (subst (HasTied m) (sym (ap (λ m. m.0) c.join_seats.ensures.both))
+          (both_tied m c.args.parent.now.seat.me.0 c.args.by.seat.me.0 (root_tied m c.args.parent.now.seat.me.0 _ c.requires.root.view c.requires.root.tied) (pass_tied m c.args.by.seat.me.0 _ c.requires.pass.rests.view c.requires.pass.rests.tied))));
     }
 
 pub returns-clause-gives : goal.returns-clause-gives

@@ -1,4 +1,5 @@
 use Rattle.std.proofs.Common.{ap, sym, subst, ◌∙◌}
+use Rattle.bounded_model.specs.declared.views.PassView.{PassView}
 use Rattle.bounded_model.specs.Machine.{Legal}
 use Rattle.bounded_model.specs.Laws.{IsAtRest}
 use Rattle.machine.proofs.SeatedCalls.{note_view}
@@ -16,7 +17,7 @@ returns-clause-pass g c =
     let v = note_view g.M.Machine.names.shares (g.M.Machine.names.quiet (line_in g.M.Machine.names c.args.by.now.seat.me.0)) c.args.by.now.seat.me.0 c.split_seat-seat.new.seat.me.0 c.split_seat-seat.result.me.0 c.requires.pass.rests.view (ap (λ m. m.0) e.left) (ap (λ m. m.0) e.right) in (
       record {
         table = e.table.0 ∙ c.requires.pass.table;
-        rests = record { view = rests_view m (line_in g.M.Machine.names c.args.by.now.seat.me.0) c.split_seat-seat.new.seat.me.0 v.pass; slots = ap (λ m. m.1) e.left ∙ c.requires.pass.rests.slots; rests = subst (IsAtRest m.core.shape) (sym v.same) c.requires.pass.rests.rests };
+        rests = record { view = rests_view m (line_in g.M.Machine.names c.args.by.now.seat.me.0) c.split_seat-seat.new.seat.me.0 v.pass; slots = ap (λ m. m.1) e.left ∙ c.requires.pass.rests.slots; rests = subst (IsAtRest m.core.shape) (sym v.same) c.requires.pass.rests.rests; tied = subst (λ (p : PassView _). m.rule p.seen) (sym v.same) c.requires.pass.rests.tied };
       },
       v.same,
     )
@@ -26,7 +27,7 @@ returns-clause-gives g c =
     let m = g.M.Machine.machine c.args.table.now.key in
     let e = c.split_seat-seat.ensures in
     let v = note_view g.M.Machine.names.shares (g.M.Machine.names.quiet (line_in g.M.Machine.names c.args.by.now.seat.me.0)) c.args.by.now.seat.me.0 c.split_seat-seat.new.seat.me.0 c.split_seat-seat.result.me.0 c.requires.pass.rests.view (ap (λ m. m.0) e.left) (ap (λ m. m.0) e.right) in
-    (record { table = e.table.1 ∙ c.requires.pass.table; view = v.note; slots = ap (λ m. m.1) e.right; legal = subst (Legal m.core.shape) (sym v.told) c.requires.pass.rests.rests.legal }, v.told)
+    (record { table = e.table.1 ∙ c.requires.pass.table; view = v.note; slots = ap (λ m. m.1) e.right; legal = subst (Legal m.core.shape) (sym v.told) c.requires.pass.rests.rests.legal; tied = subst m.rule (sym v.told) c.requires.pass.rests.tied }, v.told)
 
 pub returns-clause-lines : goal.returns-clause-lines
 returns-clause-lines g c =

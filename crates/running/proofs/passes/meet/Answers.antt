@@ -1,9 +1,11 @@
 use Rattle.std.proofs.Common.{ap, sym, subst, ◌∙◌}
+use Rattle.bounded_model.specs.declared.views.PassView.{PassView}
 use Rattle.bounded_model.specs.Laws.{IsAtRest}
-use Rattle.running.specs.Rule.{line_in}
+use Rattle.running.specs.Rule.{HasTied, line_in}
 use Rattle.machine.proofs.SeatedCalls.{meet_view}
 use Rattle.running.proofs.Acts.{pass_takes}
 use Rattle.running.proofs.Going.{rests_view, rests_still}
+use Rattle.running.proofs.Tied.{both_tied, left_tied, pass_tied, tied_pass}
 use Rattle.running.proofs.Uniting.{unites_passes, looks_passes, cuts_passes}
 use Rattle.running.proofs.passes.meet.Goals as goal
 
@@ -36,6 +38,8 @@ returns-clause-first g c =
         view = rests_view m (line_in g.M.Machine.names c.args.first.now.seat.me.0) c.split_seat-seat.new.seat.me.0 v.first;
         slots = ap (λ m. m.1) e.left ∙ c.look_round.ensures.seat.1 ∙ ap (λ m. m.1) c.join_seats.ensures.both ∙ c.requires.first.rests.slots;
         rests = v.rests c.requires.first.rests.rests;
+        tied = tied_pass m c.split_seat-seat.new.seat.me.0 _ v.first (subst (HasTied m) (sym (ap (λ m. m.0) e.left)) (left_tied m c.look_round.new.seat.me.0 (c.look_round.ensures.tied (subst (HasTied m) (sym (ap (λ m. m.0) c.join_seats.ensures.both))
+            (both_tied m c.args.first.now.seat.me.0 c.args.second.seat.me.0 (pass_tied m c.args.first.now.seat.me.0 _ c.requires.first.rests.view c.requires.first.rests.tied) (pass_tied m c.args.second.seat.me.0 _ c.requires.second.rests.view c.requires.second.rests.tied))))));
       };
     }
 
@@ -47,7 +51,7 @@ returns-clause-second g c =
     c.requires.first.rests.view c.requires.second.rests.view (ap (λ m. m.0) c.join_seats.ensures.both) c.look_round.ensures.looks (ap (λ m. m.0) e.left) (ap (λ m. m.0) e.right) in (
       record {
         table = e.table.1 ∙ c.look_round.ensures.seat.0 ∙ c.join_seats.ensures.table ∙ c.requires.first.table;
-        rests = record { view = rests_view m (line_in g.M.Machine.names c.args.second.seat.me.0) c.split_seat-seat.result.me.0 v.second; slots = ap (λ m. m.1) e.right; rests = subst (IsAtRest m.core.shape) (sym v.same) c.requires.second.rests.rests };
+        rests = record { view = rests_view m (line_in g.M.Machine.names c.args.second.seat.me.0) c.split_seat-seat.result.me.0 v.second; slots = ap (λ m. m.1) e.right; rests = subst (IsAtRest m.core.shape) (sym v.same) c.requires.second.rests.rests; tied = subst (λ (p : PassView _). m.rule p.seen) (sym v.same) c.requires.second.rests.tied };
       },
       v.same,
     )

@@ -3,9 +3,10 @@ use Rattle.bounded_model.specs.declared.views.RootView.{RootView}
 use Rattle.bounded_model.specs.Laws.{HasRoomForPass}
 use Rattle.machine.specs.Seats.{root_of}
 use Rattle.machine.proofs.SeatedCalls.{split_view}
-use Rattle.running.specs.Rule.{MayCut, line_in}
+use Rattle.running.specs.Rule.{HasTied, MayCut, line_in}
 use Rattle.running.specs.Passes.{root_in}
 use Rattle.running.proofs.Going.{rests_made}
+use Rattle.running.proofs.Tied.{left_tied, right_tied, root_tied, tied_pass, tied_root}
 use Rattle.running.proofs.passes.split.Goals as goal
 
 pub split_seat-seat-requires-clause-may : goal.split_seat-seat-requires-clause-may
@@ -38,7 +39,8 @@ returns-clause-root g c =
       slots = ap (λ m. m.1) e.left ∙ c.requires.root.slots;
       sound = v.sound;
       counted = counted;
-      stock = subst (m.core.IsStock (parent.out + 1)) (sym v.line) (m.laws.gives_stock parent.out line c.requires.root.stock fewer);
+      stock = subst (m.core.IsStock (parent.out + 1)) (sym v.line) ((g.met.M.Lawful.lawful c.args.table.now.key).laws.gives_stock parent.out line c.requires.root.stock fewer);
+      tied = tied_root m c.split_seat-seat.new.seat.me.0 _ v.root (subst (HasTied m) (sym (ap (λ m. m.0) e.left)) (left_tied m parent.seat.me.0 (root_tied m parent.seat.me.0 line c.requires.root.view c.requires.root.tied)));
     }
 
 pub returns-clause-gives : goal.returns-clause-gives
@@ -53,7 +55,8 @@ returns-clause-gives g c =
     let fewer : parent.out < m.core.shape.passes = search rules in
     let room : HasRoomForPass m.core.shape root = omega arith in
     let v = split_view m.core.shape g.M.Machine.names.shares line parent.seat.me.0 c.split_seat-seat.new.seat.me.0 c.split_seat-seat.result.me.0 c.requires.root.view c.requires.root.sound room (ap (λ m. m.0) e.left) (ap (λ m. m.0) e.right) in
-    (record { table = e.table.1 ∙ c.requires.root.table; rests = rests_made m (g.M.Machine.names.shares.gives line).1 c.split_seat-seat.result.me (m.laws.gives_quiet parent.out line c.requires.root.stock fewer) v.pass (ap (λ m. m.1) e.right) v.rests }, v.gives)
+    let tied = tied_pass m c.split_seat-seat.result.me.0 _ v.pass (subst (HasTied m) (sym (ap (λ m. m.0) e.right)) (right_tied m parent.seat.me.0 (root_tied m parent.seat.me.0 line c.requires.root.view c.requires.root.tied))) in
+    (record { table = e.table.1 ∙ c.requires.root.table; rests = rests_made m (g.M.Machine.names.shares.gives line).1 c.split_seat-seat.result.me ((g.met.M.Lawful.lawful c.args.table.now.key).laws.gives_quiet parent.out line c.requires.root.stock fewer) v.pass (ap (λ m. m.1) e.right) v.rests tied }, v.gives)
 
 pub returns-clause-lines : goal.returns-clause-lines
 returns-clause-lines g c =

@@ -3,8 +3,8 @@ use Rattle.ms_queue.proofs.FastPath.{look_after}
 use Rattle.ms_queue.proofs.calls.looking.look_fast.Goals as goal
 
 pub returns-4-clause-ran : goal.returns-4-clause-ran
-returns-4-clause-ran g c = look_after c.args.on.now c.args.look.now c.args.by.pass c.first_step.result.0 c.any.result.0 (let ran = c.first_step.ensures.ran in search rules depth 7) _ c.any.ensures.ran
+returns-4-clause-ran g c = look_after g.D.Tie.rule c.args.on.now c.args.look.now c.args.by.pass c.first_step.result.0 c.any.result.0 (let ran = c.first_step.ensures.ran in search rules depth 7) _ c.any.ensures.ran
 
 pub returns-5-clause-ran : goal.returns-5-clause-ran
-returns-5-clause-ran g c = look_after c.args.on.now c.args.look.now c.args.by.pass c.first_step.result.0 c.any-2.result.0 (let ran = c.first_step.ensures.ran in search rules depth 7) _
-    (look_after c.args.on.now c.args.look.now c.first_step.result.0 c.any.result.0 c.any-2.result.0 (let ran = c.any.ensures.ran in search rules depth 7) _ c.any-2.ensures.ran)
+returns-5-clause-ran g c = look_after g.D.Tie.rule c.args.on.now c.args.look.now c.args.by.pass c.first_step.result.0 c.any-2.result.0 (let ran = c.first_step.ensures.ran in search rules depth 7) _
+    (look_after g.D.Tie.rule c.args.on.now c.args.look.now c.first_step.result.0 c.any.result.0 c.any-2.result.0 (let ran = c.any.ensures.ran in search rules depth 7) _ c.any-2.ensures.ran)

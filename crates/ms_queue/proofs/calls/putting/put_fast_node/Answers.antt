@@ -1,16 +1,19 @@
 use Rattle.std.proofs.Common.{rules}
-use Rattle.ms_queue.proofs.FastPath.{put_after}
+use Rattle.ms_queue.proofs.FastPath.{put_after, put_going, put_stands}
 use Rattle.ms_queue.proofs.calls.putting.put_fast_node.Goals as goal
 
 pub returns-3-clause-ran : goal.returns-3-clause-ran
-returns-3-clause-ran g c = put_after c.args.on.now c.args.put.now c.args.by c.any.result.0 c.any-2.result.0 (let ran = c.any.ensures.ran in search rules depth 7) _ c.any-2.ensures.ran
+returns-3-clause-ran g c = put_after g.D.Tie.rule c.args.on.now c.args.put.now c.args.by c.any.result.0 c.any-2.result.0 (let ran = c.any.ensures.ran in search rules depth 7) _ c.any-2.ensures.ran
 
 pub returns-4-clause-ran : goal.returns-4-clause-ran
-returns-4-clause-ran g c = put_after c.args.on.now c.args.put.now c.args.by c.any.result.0 c.any-3.result.0 (let ran = c.any.ensures.ran in search rules depth 7) _
-    (put_after c.args.on.now c.args.put.now c.any.result.0 c.any-2.result.0 c.any-3.result.0 (let ran = c.any-2.ensures.ran in search rules depth 7) _ c.any-3.ensures.ran)
-
-pub returns-clause-ran : goal.returns-clause-ran
-returns-clause-ran g c = let ran = c.any.ensures.ran in search rules depth 7
+returns-4-clause-ran g c = put_after g.D.Tie.rule c.args.on.now c.args.put.now c.args.by c.any.result.0 c.any-3.result.0 (let ran = c.any.ensures.ran in search rules depth 7) _
+    (put_after g.D.Tie.rule c.args.on.now c.args.put.now c.any.result.0 c.any-2.result.0 c.any-3.result.0 (let ran = c.any-2.ensures.ran in search rules depth 7) _ c.any-3.ensures.ran)
 
 pub any-requires-2-clause-stands : goal.any-requires-2-clause-stands
-any-requires-2-clause-stands g c = let ran = c.any.ensures.ran in search rules depth 7
+any-requires-2-clause-stands g c = put_stands g.D.Tie.rule c.args.on.now c.args.put.now c.args.by c.any.result.0 c.any.result.0 c.any.result.1 _ (search rules depth 5) c.any.ensures.ran
+
+pub any-requires-3-clause-stands : goal.any-requires-3-clause-stands
+any-requires-3-clause-stands g c = put_stands g.D.Tie.rule c.args.on.now c.args.put.now c.any.result.0 c.any-2.result.0 c.any-2.result.0 c.any-2.result.1 _ (search rules depth 5) c.any-2.ensures.ran
+
+pub returns-clause-ran : goal.returns-clause-ran
+returns-clause-ran g c = put_going g.D.Tie.rule c.args.on.now c.args.put.now c.args.by c.any.result.0 c.any.result.0 c.any.result.1 _ (search rules depth 5) c.any.ensures.ran

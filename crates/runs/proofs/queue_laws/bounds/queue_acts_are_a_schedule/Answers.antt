@@ -1,6 +1,6 @@
 use Rattle.queue_machine.specs.Machine.{queue as machine}
 use Rattle.queue_machine.specs.Answers.{shape}
-use Rattle.queue_table.proofs.Laws.{queue}
+use Rattle.queue_table.specs.Core.{queue}
 use Rattle.runs.specs.queue.Bounded.{call_at}
 use Rattle.runs.proofs.Link.{shows_all}
 use Rattle.runs.proofs.queue.Queues.{running, meets}

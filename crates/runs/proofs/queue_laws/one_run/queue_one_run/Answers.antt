@@ -1,4 +1,4 @@
-use Rattle.queue_table.proofs.Laws.{queue}
+use Rattle.queue_table.specs.Core.{queue}
 use Rattle.step_core.specs.queue.Object.{object, answer}
 use Rattle.runs.specs.queue.Bounded.{call_at}
 use Rattle.runs.proofs.queue.Queues.{linearizable}

@@ -1,4 +1,4 @@
-use Rattle.ring_table.proofs.Laws.{ring_on}
+use Rattle.ring_table.specs.Core.{ring_on}
 use Rattle.runs.proofs.Link.{shows_all}
 use Rattle.runs.specs.ring.Machine.{cell_ring}
 use Rattle.runs.specs.ring.Bounded.{call_at}

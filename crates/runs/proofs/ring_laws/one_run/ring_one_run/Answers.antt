@@ -1,4 +1,4 @@
-use Rattle.ring_table.proofs.Laws.{ring_on}
+use Rattle.ring_table.specs.Core.{ring_on}
 use Rattle.step_core.specs.ring.Object.{object}
 use Rattle.runs.specs.ring.Bounded.{call_in}
 use Rattle.runs.specs.ring.Linearizable.{answer_at}

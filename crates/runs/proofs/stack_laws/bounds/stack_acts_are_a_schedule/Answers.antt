@@ -1,6 +1,6 @@
 use Rattle.stack_machine.specs.Machine.{stack as machine}
 use Rattle.stack_machine.specs.Answers.{shape}
-use Rattle.stack_table.proofs.Laws.{stack}
+use Rattle.stack_table.specs.Core.{stack}
 use Rattle.runs.proofs.Link.{shows_all}
 use Rattle.runs.specs.stack.Bounded.{call_at}
 use Rattle.runs.proofs.stack.Stacks.{running, meets}

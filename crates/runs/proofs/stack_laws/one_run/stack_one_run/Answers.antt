@@ -1,4 +1,4 @@
-use Rattle.stack_table.proofs.Laws.{stack}
+use Rattle.stack_table.specs.Core.{stack}
 use Rattle.step_core.specs.stack.Object.{object, answer}
 use Rattle.runs.specs.stack.Bounded.{call_at}
 use Rattle.runs.proofs.stack.Stacks.{linearizable}

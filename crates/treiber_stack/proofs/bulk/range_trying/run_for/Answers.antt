@@ -1,7 +1,7 @@
 use Rattle.std.proofs.Common.{length, refl, sym, ◌∙◌, subst, arith}
 use Rattle.running.specs.Passes.{pass_in}
 use Rattle.treiber_stack.specs.code.RangeTrying.{MadeAtMost}
-use Rattle.treiber_stack.specs.Calls.{begun_of}
+use Rattle.treiber_stack.specs.Calls.{begun_with}
 use Rattle.treiber_stack.proofs.RangeTook.{comes, goes, ends, most}
 use Rattle.treiber_stack.proofs.bulk.range_trying.run_for.Goals as goal
 
@@ -15,10 +15,10 @@ loop-round-preserved g c =
     let now = c.loop-round.invariant.0 was.0 was.1 was.2 in (
       (λ vs is left.
           let i = c.loop-round.invariant.0 vs is left in
-          let came = next.ensures.came (begun_of stack r.pass) vs r.at.at (back.ensures.ran vs i.0.at) i.0.of i.1 in
+          let came = next.ensures.came (begun_with g.D.Tie.rule stack r.pass) vs r.at.at (back.ensures.ran vs i.0.at) i.0.of i.1 in
           (came.0.0, came.1, came.0.1 ∙ i.2)),
       comes c.args.steps c.args.op c.loop-round.round r c.loop-round.invariant.1 back.back back.ensures.took next.next
-          (next.ensures.stopped (begun_of stack r.pass) was.0 r.at.at (back.ensures.ran was.0 now.0.at) now.1),
+          (next.ensures.stopped (begun_with g.D.Tie.rule stack r.pass) was.0 r.at.at (back.ensures.ran was.0 now.0.at) now.1),
       next.ensures.same ∙ c.loop-round.invariant.2,
     )
 
@@ -37,7 +37,7 @@ returns-in-Done-after_stop-clause-took g c =
     let done = c.in-Done-after_stop in
     let was = c.requires in
     let now = c.loop-round.invariant.0 was.0 was.1 was.2 in
-    let s = done.ensures.stopped (begun_of c.args.on.now r.pass) was.0 r.at.at (back.ensures.ran was.0 now.0.at) now.1 in
+    let s = done.ensures.stopped (begun_with g.D.Tie.rule c.args.on.now r.pass) was.0 r.at.at (back.ensures.ran was.0 now.0.at) now.1 in
     ends c.args.steps c.args.op c.loop-round.round r c.loop-round.invariant.1 back.back back.ensures.took done.pass s.0 done.answer s.1
 
 pub returns-in-Again-clause-most : goal.returns-in-Again-clause-most
@@ -53,7 +53,7 @@ returns-in-Done-after_stop-clause-most g c vs is left =
     let back = c.in-Done in
     let done = c.in-Done-after_stop in
     let now = c.loop-round.invariant.0 vs is left in
-    let s = done.ensures.stopped (begun_of c.args.on.now r.pass) vs r.at.at (back.ensures.ran vs now.0.at) now.1 in
+    let s = done.ensures.stopped (begun_with g.D.Tie.rule c.args.on.now r.pass) vs r.at.at (back.ensures.ran vs now.0.at) now.1 in
     subst (λ p. MadeAtMost c.args.steps (length vs) (pass_in c.args.op.pass) (pass_in p)) (sym s.0)
     (most c.args.steps c.args.op c.loop-round.round r (length vs) c.loop-round.invariant.1 now.0.at.has.few (pass_in back.back) back.ensures.took)
 

@@ -1,6 +1,6 @@
 use Rattle.std.proofs.Common.{refl}
 use Rattle.running.proofs.Back.{new_call}
-use Rattle.ms_queue.specs.Calls.{machine_of}
+use Rattle.ms_queue.specs.Calls.{machine_with}
 use Rattle.ms_queue.proofs.life.queue.Queue.gauge.Goals as goal
 
 pub returns-clause-of : goal.returns-clause-of
@@ -26,4 +26,4 @@ returns-clause-ran g c =
 pub returns-clause-new : goal.returns-clause-new
 returns-clause-new g c =
     let q = c.args.self.now in
-    new_call (machine_of q) q.table.shared.table_id c.args.by c.requires.on c.whole.result.0 (c.whole.ensures.new c.args.by.pass c.first_step-first.ensures.ran)
+    new_call (machine_with g.D.Tie.rule q) q.table.shared.table_id c.args.by c.requires.on c.whole.result.0 (c.whole.ensures.new c.args.by.pass c.first_step-first.ensures.ran)

@@ -1,7 +1,7 @@
 use Rattle.std.proofs.Common.{◌≤◌, arith, refl}
 use Rattle.bounded_model.proofs.Hands.{within_capacity}
 use Rattle.bounded_model.proofs.Staying.{legal_before}
-use Rattle.ring_queue.specs.Calls.{machine_of, room_of, shape_of}
+use Rattle.ring_queue.specs.Calls.{machine_with, room_of, shape_of}
 use Rattle.running.proofs.Back.{new_call}
 use Rattle.ring_queue.proofs.life.ring.RingQueue.len.Goals as goal
 
@@ -36,4 +36,4 @@ returns-clause-ran g c =
 pub returns-clause-new : goal.returns-clause-new
 returns-clause-new g c =
     let q = c.args.self.now in
-    new_call (machine_of q) q.table.shared.table_id c.args.by c.requires.on c.whole-pass.result.0 (c.whole-pass.ensures.new c.args.by.pass c.first_step-first.ensures.ran)
+    new_call (machine_with g.D.Tie.rule q) q.table.shared.table_id c.args.by c.requires.on c.whole-pass.result.0 (c.whole-pass.ensures.new c.args.by.pass c.first_step-first.ensures.ran)

@@ -1,7 +1,7 @@
 use Rattle.std.proofs.Common.{refl}
 use Rattle.stack_table.specs.declared.operation.Operation.TheVariants.{Look as LookFirst}
 use Rattle.running.proofs.Back.{new_call}
-use Rattle.treiber_stack.specs.Calls.{machine_of}
+use Rattle.treiber_stack.specs.Calls.{machine_with}
 use Rattle.treiber_stack.proofs.life.stack.Stack.look.Goals as goal
 
 pub returns-clause-of : goal.returns-clause-of
@@ -27,4 +27,4 @@ returns-clause-ran g c =
 pub returns-clause-new : goal.returns-clause-new
 returns-clause-new g c =
     let q = c.args.self.now in
-    new_call (machine_of q) q.table.shared.table_id c.args.by c.requires.on c.whole.result.0 (c.whole.ensures.new c.args.by.pass c.look_fast-first.ensures.ran)
+    new_call (machine_with g.D.Tie.rule q) q.table.shared.table_id c.args.by c.requires.on c.whole.result.0 (c.whole.ensures.new c.args.by.pass c.look_fast-first.ensures.ran)

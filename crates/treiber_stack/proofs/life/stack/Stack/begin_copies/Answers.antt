@@ -1,4 +1,0 @@
-use Rattle.treiber_stack.proofs.life.stack.Stack.begin_copies.Goals as goal
-
-pub returns : goal.returns
-returns g c = c.begin.ensures c.args.values.now c.put_of_copies.ensures
