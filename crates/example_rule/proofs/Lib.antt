@@ -1,0 +1,6 @@
+mod Counting
+mod Feeding
+mod NearMisses
+mod Opening
+mod Putting
+mod Taking
