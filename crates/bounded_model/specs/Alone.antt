@@ -1,14 +1,17 @@
 -- The calls of a history without the moves of hands: a sequential list.
-use Rattle.std.specs.Prelude.{◌≡◌, false, List, [], ◌∷◌}
+use Rattle.std.specs.Prelude.{◌≡◌, Bool, true, false, List, [], ◌∷◌, filter}
 use Rattle.bounded_model.specs.declared.history.Event.{Event}
 use Rattle.bounded_model.specs.declared.history.Event.TheVariants.{Hold, Put, Free}
 use Rattle.bounded_model.specs.Machine.{Shape, State, state, MayPut, next_put, Needs}
 
+-- a move of hands changes nothing but which cells are in which hand
+abbrev pub changes : {T : Type 0} → Event T → Bool
+changes (Hold p) = false
+changes (Free p k) = false
+changes e = true
+
 abbrev pub without_hands : {T : Type 0} → List (Event T) → List (Event T)
-without_hands [] = []
-without_hands (Hold p ∷ h) = without_hands h
-without_hands (Free p k ∷ h) = without_hands h
-without_hands (e ∷ h) = e ∷ without_hands h
+without_hands h = filter changes h
 
 -- what an event needs of the list alone: a put needs no cell in hand, and no hand moves
 abbrev pub ListNeeds : {T : Type 0} → Shape → State T → Event T → Type 0

@@ -1,46 +1,34 @@
 -- What a call's answer says of the puts that its pass has made, and of the value that it took.
-use Rattle.std.proofs.Common.{◌≡◌, ℕ, zero, suc, ◌+◌, inl, inr, ⊎_elim, Bool, true, false, cond, List, [], ◌∷◌, ◌++◌, Result, Ok, Err, refl, sym, ap, ◌∙◌, subst}
-use Rattle.std.specs.Prelude.{◌==◌, filter}
-use Rattle.std.proofs.lemmas.List.Elements.{filter-append}
+use Rattle.std.proofs.Common.{◌≡◌, ℕ, ◌+◌, inl, inr, ⊎_elim, Bool, true, false, cond, List, [], ◌∷◌, ◌++◌, Result, Ok, Err, refl, sym, ap, ◌∙◌, subst}
+use Rattle.std.specs.Prelude.{◌==◌}
 use Rattle.bounded_model.specs.declared.answers.PutRefused.{PutRefused}
 use Rattle.bounded_model.specs.declared.answers.PutRefused.TheVariants.{Full, Closed, Spent}
 use Rattle.bounded_model.specs.declared.history.Event.{Event}
 use Rattle.bounded_model.specs.declared.history.Event.TheVariants.{Hold, Put, Take}
 use Rattle.bounded_model.specs.declared.views.PassView.{PassView}
+use Rattle.bounded_model.specs.Alone.{without_hands}
 use Rattle.bounded_model.specs.Histories.{Among, own, pass_of}
-use Rattle.bounded_model.specs.Laws.{Adds, PutGives, TakeGives, gave_back, holds_of}
+use Rattle.bounded_model.specs.Laws.{Adds, PutGives, TakeGives}
 use Rattle.bounded_model.specs.Machine.{Legal, Shape, without_first}
 use Rattle.bounded_model.proofs.Histories.{own-append}
 use Rattle.queue_machine.specs.Answers.{shape}
-use Rattle.running.specs.Ties.{changes, changed_by}
+use Rattle.running.proofs.Changed.{back_changes_nothing, changed_since, unchanged}
+use Rattle.running.specs.Ties.{changed_by}
 use Rattle.example_rule.specs.Fed.{Fed, count_puts}
 use Rattle.example_rule.proofs.Feeding.{head_or, mine, puts_are, taken}
 
 module _ {T : Type 0} where
-  -- what the pass has changed since
-  changed_since : (v w : PassView T) (events : List (Event T)) → Adds v w events → changed_by v.number w.seen ≡ filter changes events ++ changed_by v.number v.seen
-  changed_since v w events a =
-      let p = v.number in
-      ap (changed_by p) a.seen ∙ ap (filter changes) (own-append p a.between v.seen ∙ ap (λ (es : List (Event T)). es ++ own p v.seen) a.own_events) ∙ filter-append changes events (own p v.seen)
-
-  holds_change_nothing : (p k : ℕ) → filter changes (holds_of {T = T} p k) ≡ []
-  holds_change_nothing p zero = refl
-  holds_change_nothing p (suc k) = holds_change_nothing p k
-
-  back_changes_nothing : (p k : ℕ) → filter changes (gave_back {T = T} p k) ≡ []
-  back_changes_nothing p zero = refl
-  back_changes_nothing p (suc k) = holds_change_nothing p k
-
-  unchanged : (v w : PassView T) (events : List (Event T)) → Adds v w events → filter changes events ≡ [] → changed_by v.number w.seen ≡ changed_by v.number v.seen
-  unchanged v w events a none = changed_since v w events a ∙ ap (λ (es : List (Event T)). es ++ changed_by v.number v.seen) none
+  -- a pass that has moved hands alone has put no more
+  same_puts : (v w : PassView T) (events : List (Event T)) → Adds v w events → without_hands events ≡ [] → count_puts (changed_by v.number w.seen) ≡ count_puts (changed_by v.number v.seen)
+  same_puts v w events a none = ap count_puts (unchanged v.number v.seen events a.between a.seen a.own_events none)
 
   pub one_more : (c : Shape) (v w : PassView T) (x : T) (n : ℕ) → PutGives c v x w (Ok n) → count_puts (changed_by v.number w.seen) ≡ 1 + count_puts (changed_by v.number v.seen)
-  one_more c v w x n gives = ap count_puts (changed_since v w _ gives)
+  one_more c v w x n gives = ap count_puts (changed_since v.number v.seen _ gives.between gives.seen gives.own_events)
 
   pub none_more : (c : Shape) (v w : PassView T) (x : T) (why : PutRefused T) → PutGives c v x w (Err why) → count_puts (changed_by v.number w.seen) ≡ count_puts (changed_by v.number v.seen)
-  none_more c v w x (Full y) gives = ap count_puts (unchanged v w _ gives.1 refl)
-  none_more c v w x (Closed y) gives = ap count_puts (unchanged v w _ gives.1.adds (back_changes_nothing v.number gives.1.held))
-  none_more c v w x (Spent y word t) gives = ap count_puts (unchanged v w _ gives.1.adds (back_changes_nothing v.number gives.1.held))
+  none_more c v w x (Full y) gives = same_puts v w _ gives.1 refl
+  none_more c v w x (Closed y) gives = same_puts v w _ gives.1.adds (back_changes_nothing v.number gives.1.held)
+  none_more c v w x (Spent y word t) gives = same_puts v w _ gives.1.adds (back_changes_nothing v.number gives.1.held)
 
   pub put_number : (c : Shape) (v w : PassView T) (x : T) (said : Result ℕ (PutRefused T)) → PutGives c v x w said → w.number ≡ v.number
   put_number c v w x (Ok n) gives = gives.number
@@ -80,7 +68,7 @@ module _ {T : Type 0} where
             let put : e ≡ Put boss (x ∷ []) k = ap (head_or e) now in
             let held : own boss es ≡ Hold boss ∷ [] = ap without_first now in
             let needs : Legal (shape n limit) (Put boss (x ∷ []) k ∷ es ++ before) = subst (λ (y : Event T). Legal (shape n limit) (y ∷ es ++ before)) put legal in
-            needs.0.3 ∙ puts_are boss f n limit (es ++ before) ∙ mine boss f (es ++ before) fed.1 ∙ ap (λ (ys : List (Event T)). count_puts (filter changes ys)) (own-append boss es before ∙ ap (λ (ys : List (Event T)). ys ++ own boss before) held)
+            needs.0.3 ∙ puts_are boss f n limit (es ++ before) ∙ mine boss f (es ++ before) fed.1 ∙ ap (λ (ys : List (Event T)). count_puts (without_hands ys)) (own-append boss es before ∙ ap (λ (ys : List (Event T)). ys ++ own boss before) held)
         at false now earlier = earlier now
 
   pub put_has_number : (boss : ℕ) (f : ℕ → T) (n limit : ℕ) (v w : PassView T) (x : T) (k : ℕ) → v.number ≡ boss → PutGives (shape n limit) v x w (Ok k) → Legal (shape n limit) w.seen → Fed boss f w.seen → k ≡ count_puts (changed_by boss v.seen)

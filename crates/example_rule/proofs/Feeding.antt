@@ -1,15 +1,16 @@
 -- A rule by which a consumer knows what it takes.
 use Rattle.std.proofs.Common.{◌≡◌, ℕ, zero, suc, ◌+◌, ⊎_elim, Bool, true, false, cond, List, [], ◌∷◌, ◌++◌, refl, sym, ap, ◌∙◌, subst, arith}
 use Rattle.std.proofs.lemmas.Bool.{false≢true}
-use Rattle.std.specs.Prelude.{◌==◌, filter}
+use Rattle.std.specs.Prelude.{◌==◌}
 use Rattle.bounded_model.specs.declared.history.Event.{Event}
 use Rattle.bounded_model.specs.declared.history.Event.TheVariants.{Hold, Put, Take, TakeAll, Free, Close, Shut}
 use Rattle.bounded_model.specs.declared.views.PassView.{PassView}
+use Rattle.bounded_model.specs.Alone.{without_hands}
 use Rattle.bounded_model.specs.Histories.{Among, own, pass_of}
 use Rattle.bounded_model.specs.Machine.{Legal, state, without_first}
 use Rattle.bounded_model.proofs.Histories.{own-mine}
 use Rattle.queue_machine.specs.Answers.{shape}
-use Rattle.running.specs.Ties.{PutDeals, TakeDeals, CloseDeals, changes, changed_by}
+use Rattle.running.specs.Ties.{PutDeals, TakeDeals, CloseDeals, changed_by}
 use Rattle.example_rule.specs.Fed.{Fed, Feeds, count_puts}
 use Rattle.example_rule.specs.FedIsTie.{fed_is_tie}
 
@@ -26,7 +27,7 @@ has_one [] = false
 has_one (x ∷ xs) = true
 
 module _ {T : Type 0} (boss : ℕ) (f : ℕ → T) where
-  skips : (b : Bool) (e : Event T) (es : List (Event T)) → is_put e ≡ false → count_puts (filter changes (cond b (e ∷ es) es)) ≡ count_puts (filter changes es)
+  skips : (b : Bool) (e : Event T) (es : List (Event T)) → is_put e ≡ false → count_puts (without_hands (cond b (e ∷ es) es)) ≡ count_puts (without_hands es)
   skips false e es none_put = refl
   skips true (Put p vs k) es none_put = absurd (false≢true (sym none_put))
   skips true e es none_put = refl
@@ -34,7 +35,7 @@ module _ {T : Type 0} (boss : ℕ) (f : ℕ → T) where
   -- all puts are the boss's
   pub mine : (h : List (Event T)) → Fed boss f h → count_puts h ≡ count_puts (changed_by boss h)
   mine [] fed = refl
-  mine (Put p vs k ∷ h) fed = ap (λ (x : ℕ). 1 + x) (mine h fed.1) ∙ sym (ap (λ (es : List (Event T)). count_puts (filter changes es)) (own-mine boss (Put p vs k) h fed.0.0))
+  mine (Put p vs k ∷ h) fed = ap (λ (x : ℕ). 1 + x) (mine h fed.1) ∙ sym (ap (λ (es : List (Event T)). count_puts (without_hands es)) (own-mine boss (Put p vs k) h fed.0.0))
   mine (e ∷ h) fed = mine h fed.1 ∙ sym (skips (pass_of e == boss) e (own boss h) refl)
 
   abbrev upto : ℕ → ℕ → List T

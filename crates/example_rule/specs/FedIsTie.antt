@@ -1,9 +1,10 @@
 -- That the rule `Fed` is one. The proof stands here because the code of the tie cites it.
 use Rattle.std.proofs.Common.{◌≡◌, ℕ, false, List, ◌∷◌, sym}
 use Rattle.std.proofs.lemmas.Bool.{false≢true}
+use Rattle.bounded_model.specs.Alone.{changes}
 use Rattle.bounded_model.specs.declared.history.Event.{Event}
 use Rattle.bounded_model.specs.declared.history.Event.TheVariants.{Put}
-use Rattle.running.specs.Ties.{IsTie, changes}
+use Rattle.running.specs.Ties.{IsTie}
 use Rattle.example_rule.specs.Fed.{Fed}
 use Rattle.example_rule.specs.Frames.{boss as producer, feed, frame_of}
 

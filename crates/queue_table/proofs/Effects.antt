@@ -1,11 +1,11 @@
 -- All that a step of a queue adds to the history is moves of hands, but for the one effect of its operation.
-use Rattle.std.proofs.Common.{◌≡◌, ℕ, inl, inr, false, List, [], ◌∷◌, ◌++◌, refl, sym, ap, ◌∙◌, subst, Option as Slot, Some, None}
-use Rattle.std.specs.Prelude.{filter}
+use Rattle.std.proofs.Common.{◌≡◌, ℕ, inl, inr, false, List, [], ◌∷◌, refl, sym, ap, ◌∙◌, subst, Option as Slot, Some, None}
 use mathlib.Core.Option.{Option, none, some}
 use Rattle.bounded_model.specs.declared.history.Event.{Event}
 use Rattle.bounded_model.specs.declared.history.Event.TheVariants.{Hold, Put, Take, Free, Close, Shut}
+use Rattle.bounded_model.specs.Alone.{changes}
 use Rattle.bounded_model.specs.Histories.{own}
-use Rattle.bounded_model.proofs.Histories.{own-append, own-between}
+use Rattle.bounded_model.proofs.Histories.{own-between}
 use Rattle.machine.specs.Words.{Tagged}
 use Rattle.machine.proofs.Ahead.{Ahead}
 use Rattle.machine.proofs.Program.{Cases, by_cases}
@@ -18,7 +18,8 @@ use Rattle.queue_machine.proofs.Doing.{meanwhile}
 use Rattle.queue_table.specs.Core.{core}
 use Rattle.queue_table.specs.Lines.{call_of}
 use Rattle.running.specs.Machine.{Sight}
-use Rattle.running.specs.Ties.{Adds, changes, changed_by}
+use Rattle.running.proofs.Changed.{unchanged}
+use Rattle.running.specs.Ties.{Adds, changed_by}
 use Rattle.queue_table.specs.Effects.{effect, effect_of}
 use Rattle.queue_table.specs.declared.operation.Operation.{Operation}
 
@@ -29,10 +30,6 @@ module _ {T : Type 0} (limit : ℕ) (m : Memory T) (p : ℕ) (call : Call T) (be
   abbrev At : Line T → Type 0
   At l = Deeds p call l begun h
 
-  -- a pass that has moved hands alone since it began has changed nothing since
-  unchanged : (events between : List (Event T)) → h ≡ between ++ begun → own p between ≡ events → filter changes (events ++ own p begun) ≡ changed_by p begun → changed_by p h ≡ changed_by p begun
-  unchanged events between is own_are none_changed = ap (changed_by p) is ∙ ap (filter changes) (own-append p between begun ∙ ap (λ (es : List (Event T)). es ++ own p begun) own_are) ∙ none_changed
-
   hand : (e : Event T) → changes e ≡ false → Adds (effect_of call p) p begun h (e ∷ [])
   hand e moves = (tt, inl moves)
 
@@ -42,7 +39,7 @@ module _ {T : Type 0} (limit : ℕ) (m : Memory T) (p : ℕ) (call : Call T) (be
   took : (u y : Tagged) (k : ℕ) → At (TakeHead u y k) → (o : Option (Slot T)) → Is (wins_value m p u y k o)
   took u y k d none = tt
   took u y k d (some None) = tt
-  took u y k d (some (Some v)) = does (Take p v u.tag) (subst (λ (c : Call T). effect_of c p (Take p v u.tag)) (sym d.made.0) (v, u.tag, refl)) (unchanged [] d.between d.is d.made.1 refl)
+  took u y k d (some (Some v)) = does (Take p v u.tag) (subst (λ (c : Call T). effect_of c p (Take p v u.tag)) (sym d.made.0) (v, u.tag, refl)) (unchanged p begun [] d.between d.is d.made.1 refl)
 
   adds : (l : Line T) → At l → Cases memories (Idle None) m p Is l (table limit l)
   adds (TakeCell v w k) d = (λ won. hand (Hold p) refl, tt)
@@ -51,9 +48,9 @@ module _ {T : Type 0} (limit : ℕ) (m : Memory T) (p : ℕ) (call : Call T) (be
   adds (SwingTail s w y) d = (λ won. tt, tt)
   adds (LinkNext link w y) d =
       let put_now : Event T = Put p (link.value ∷ []) w.tag in
-      (λ won. does put_now (subst (λ (c : Call T). effect_of c p put_now) (sym d.made.0) (w.tag, refl)) (unchanged (Hold p ∷ []) d.between d.is d.made.1 refl), tt)
+      (λ won. does put_now (subst (λ (c : Call T). effect_of c p put_now) (sym d.made.0) (w.tag, refl)) (unchanged p begun (Hold p ∷ []) d.between d.is d.made.1 refl), tt)
   adds (SwingToLinked v w y) d = (λ won. tt, tt)
-  adds (MarkNext w y) d = (λ won. does (Close p) (subst (λ (c : Call T). effect_of c p (Close p)) (sym d.made.0) refl) (unchanged [] d.between d.is d.made.1 refl), tt)
+  adds (MarkNext w y) d = (λ won. does (Close p) (subst (λ (c : Call T). effect_of c p (Close p)) (sym d.made.0) refl) (unchanged p begun [] d.between d.is d.made.1 refl), tt)
   adds (CheckHead u w y) d = (λ won. tt, tt)
   adds (SwingTailToTake w y) d = (λ won. tt, tt)
   adds (TakeHead u y k) d = (λ won. took u y k d (m.home k), tt)
@@ -62,7 +59,7 @@ module _ {T : Type 0} (limit : ℕ) (m : Memory T) (p : ℕ) (call : Call T) (be
   adds (CheckHeadToLook u y) d = (λ won. tt, tt)
   adds (CheckHeadToCount u w y) d = (λ won. tt, tt)
   adds (CheckNextToGauge w y) d = (λ won. tt, tt)
-  adds (ShutHead u) d = (λ won. does (Shut p) (subst (λ (c : Call T). effect_of c p (Shut p)) (sym d.made.0) refl) (unchanged [] d.between d.is d.made.1 refl), tt)
+  adds (ShutHead u) d = (λ won. does (Shut p) (subst (λ (c : Call T). effect_of c p (Shut p)) (sym d.made.0) refl) (unchanged p begun [] d.between d.is d.made.1 refl), tt)
   adds l d = tt
 
 pub queue_effects : {T : Type 0} (n limit : ℕ) → (o : Operation T) (m : Memory T) (s : Sight (core T n limit) m) → Deeds s.pass.number (call_of o) s.at.line s.begun s.pass.seen → Adds (effect o s.pass.number) s.pass.number s.begun s.at.history ((core T n limit).adds m s.pass.number s.at.line)

@@ -1,12 +1,12 @@
 -- All that a step of a ring adds to the history is moves of hands, but for the one effect of its call.
-use Rattle.std.proofs.Common.{◌≡◌, ℕ, ◌*◌, inl, inr, List, [], ◌∷◌, ◌++◌, refl, sym, ap, ◌∙◌, subst, Option as Slot, Some, None}
-use Rattle.std.specs.Prelude.{filter}
+use Rattle.std.proofs.Common.{◌≡◌, ℕ, ◌*◌, inl, inr, List, [], ◌∷◌, refl, sym, ap, ◌∙◌, subst, Option as Slot, Some, None}
 use mathlib.Core.Option.{Option, none, some}
 use Rattle.bounded_model.specs.declared.history.Event.{Event}
 use Rattle.bounded_model.specs.declared.history.Event.TheVariants.{Hold, Put, Take, Close, Shut}
 use Rattle.bounded_model.specs.declared.views.PassView.{PassView}
+use Rattle.bounded_model.specs.Alone.{without_hands}
 use Rattle.bounded_model.specs.Histories.{own}
-use Rattle.bounded_model.proofs.Histories.{own-append, own-between, own-mine}
+use Rattle.bounded_model.proofs.Histories.{own-between, own-mine}
 use Rattle.machine.specs.Words.{Tagged}
 use Rattle.machine.specs.Seats.{Saw}
 use Rattle.machine.proofs.Ahead.{Ahead}
@@ -20,7 +20,8 @@ use Rattle.ring_machine.specs.Machine.{Memory, memories, Outcome, place, table, 
 use Rattle.ring_machine.specs.Answers.{shape}
 use Rattle.ring_machine.specs.Deeds.{Deeds}
 use Rattle.ring_machine.proofs.Doing.{meanwhile}
-use Rattle.running.specs.Ties.{Adds, changes, changed_by}
+use Rattle.running.proofs.Changed.{unchanged}
+use Rattle.running.specs.Ties.{Adds, changed_by}
 use Rattle.ring_table.specs.Effects.{effect_of}
 
 -- A step of pass p, in a call that was begun after the history `begun`. The step finds this memory and the history h
@@ -31,15 +32,9 @@ module _ {T : Type 0} (n laps : ℕ) (m : Memory T) (p : ℕ) (call : Call T) (b
   abbrev At : Line T → Type 0
   At l = Deeds n p call l begun h
 
-  -- a pass that has added no event since the begin has changed nothing since
-  unchanged : (between : List (Event T)) → h ≡ between ++ begun → own p between ≡ [] → changed_by p h ≡ changed_by p begun
-  unchanged between is none_own =
-      let own_are : own p (between ++ begun) ≡ own p begun = own-append p between begun ∙ ap (λ (es : List (Event T)). es ++ own p begun) none_own in
-      ap (λ (es : List (Event T)). changed_by p es) is ∙ ap (λ (es : List (Event T)). filter changes es) own_are
-
-  -- nor does the pass change anything as it takes a cell
+  -- a pass that takes a cell changes nothing
   unchanged_by_hold : changed_by p (Hold p ∷ h) ≡ changed_by p h
-  unchanged_by_hold = ap (λ (es : List (Event T)). filter changes es) (own-mine p (Hold p) h refl)
+  unchanged_by_hold = ap without_hands (own-mine p (Hold p) h refl)
 
   -- one event is an effect of the call, whichever of its names the call goes by
   of : (call' : Call T) (e : Event T) → call ≡ call' → effect_of call' p e → effect_of call p e
@@ -49,7 +44,7 @@ module _ {T : Type 0} (n laps : ℕ) (m : Memory T) (p : ℕ) (call : Call T) (b
   puts : (w : Walk) (v : T) (y : Tagged) → At (PutCell w v y) → Is (wins_put n m p w v y)
   puts w v y d =
       let put_now : Event T = Put p (v ∷ []) (place n w.at) in
-      ((tt, inl refl), inr (of (CallPut v) put_now d.made.0 (place n w.at, refl), unchanged_by_hold ∙ unchanged d.between d.is d.made.1))
+      ((tt, inl refl), inr (of (CallPut v) put_now d.made.0 (place n w.at, refl), unchanged_by_hold ∙ unchanged p begun [] d.between d.is d.made.1 refl))
 
   -- a take takes a value and gives its cell back in one step. It adds nothing if the cell of the slot has no value
   takes : (w : Walk) (y : Tagged) → At (TakeCell w y) → (o : Option (Slot T)) → Is (wins_value n m p w y o)
@@ -57,17 +52,17 @@ module _ {T : Type 0} (n laps : ℕ) (m : Memory T) (p : ℕ) (call : Call T) (b
   takes w y d (some None) = tt
   takes w y d (some (Some v)) =
       let take_now : Event T = Take p v (place n w.at) in
-      ((tt, inr (of CallTake take_now d.made.0 (v, place n w.at, refl), unchanged d.between d.is d.made.1)), inl refl)
+      ((tt, inr (of CallTake take_now d.made.0 (v, place n w.at, refl), unchanged p begun [] d.between d.is d.made.1 refl)), inl refl)
 
   adds : (l : Line T) → At l → Cases memories (resting (cell_of l)) m p Is l (table n (2 * laps) l)
   adds (MoveTail w s) d = (λ won. tt, tt)
   adds (PutCell w v y) d = (λ won. puts w v y d, tt)
   adds (PassTail w) d = (λ won. tt, tt)
-  adds (MarkBack w y) d = (λ won. (tt, inr (of CallClose (Close p) d.made.0 refl, unchanged d.between d.is d.made.1)), tt)
+  adds (MarkBack w y) d = (λ won. (tt, inr (of CallClose (Close p) d.made.0 refl, unchanged p begun [] d.between d.is d.made.1 refl)), tt)
   adds (MoveHead w s) d = (λ won. tt, tt)
   adds (TakeCell w y) d = (λ won. takes w y d (m.home y.index), tt)
   adds (PassHead w v) d = (λ won. tt, tt)
-  adds (ShutFront w y) d = (λ won. (tt, inr (of CallShut (Shut p) d.made.0 refl, unchanged d.between d.is d.made.1)), tt)
+  adds (ShutFront w y) d = (λ won. (tt, inr (of CallShut (Shut p) d.made.0 refl, unchanged p begun [] d.between d.is d.made.1 refl)), tt)
   adds l d = tt
 
 -- others alone may have added to the history that the pass has seen, so the pass has still done what it had done by then

@@ -1,20 +1,15 @@
 -- A client's own rule on the history of its container, and what each call owes it.
-use Rattle.std.specs.Prelude.{◌≡◌, ◌⊎◌, ℕ, ◌<◌, Bool, true, false, List, [], ◌∷◌, ◌++◌, filter, length}
+use Rattle.std.specs.Prelude.{◌≡◌, ◌⊎◌, ℕ, ◌<◌, false, List, [], ◌∷◌, ◌++◌, length}
 use Rattle.bounded_model.specs.declared.history.Event.{Event}
-use Rattle.bounded_model.specs.declared.history.Event.TheVariants.{Hold, Put, Take, TakeAll, Free, Close, Shut}
+use Rattle.bounded_model.specs.declared.history.Event.TheVariants.{Put, Take, TakeAll, Close, Shut}
 use Rattle.bounded_model.specs.declared.views.PassView.{PassView}
 use Rattle.bounded_model.specs.Histories.{own, Later}
+use Rattle.bounded_model.specs.Alone.{changes, without_hands}
 use Rattle.bounded_model.specs.Machine.{Shape, Legal}
-
--- a move of hands changes nothing but which cells are in which hand
-abbrev pub changes : {T : Type 0} → Event T → Bool
-changes (Hold p) = false
-changes (Free p k) = false
-changes e = true
 
 -- what pass p has changed
 abbrev pub changed_by : {T : Type 0} → ℕ → List (Event T) → List (Event T)
-changed_by p h = filter changes (own p h)
+changed_by p h = without_hands (own p h)
 
 -- A rule that a client may give its container: it holds of a new one, and moves of hands keep it
 pub record IsTie {T : Type 0} (rule : List (Event T) → Type 0) : Type 0 where

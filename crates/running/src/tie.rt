@@ -9,6 +9,8 @@ pub trait Tie<T> {
     /// What holds of the history, the newest event first.
     ghost rule: { List (Event T) → Type 0 };
 
+    /// A new container keeps it, and moves of hands do. The proof stands in the client's `specs/`,
+    /// because code cites no file of `proofs/`.
     ghost is_tie: { IsTie rule };
 }
 

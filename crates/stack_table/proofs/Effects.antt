@@ -1,16 +1,16 @@
 -- All that a step of a stack adds to the history is moves of hands, but for the one effect of its call.
-use Rattle.std.proofs.Common.{◌≡◌, ℕ, zero, suc, ◌<◌, ◌≤◌, inl, inr, false, List, [], ◌∷◌, ◌++◌, length, refl, sym, ap, ◌∙◌, subst, arith, Option as Slot, Some, None}
+use Rattle.std.proofs.Common.{◌≡◌, ℕ, ◌<◌, ◌≤◌, inl, inr, false, List, [], ◌∷◌, ◌++◌, length, refl, sym, ap, ◌∙◌, subst, arith, Option as Slot, Some, None}
 use Rattle.std.proofs.lemmas.List.{length-take-le, take-append-drop}
-use Rattle.std.specs.Prelude.{filter}
 use mathlib.Core.Option.{Option, none, some}
 use lib.ListN.{get_elem?}
 use Rattle.bounded_model.specs.declared.history.Event.{Event}
 use Rattle.bounded_model.specs.declared.history.Event.TheVariants.{Hold, Put, Take, TakeAll, Free, Close, Shut}
 use Rattle.bounded_model.specs.declared.views.PassView.{PassView}
+use Rattle.bounded_model.specs.Alone.{changes}
 use Rattle.bounded_model.specs.Histories.{own}
 use Rattle.bounded_model.specs.Laws.{holds_of}
 use Rattle.bounded_model.specs.Machine.{Shape}
-use Rattle.bounded_model.proofs.Histories.{own-append, own-between}
+use Rattle.bounded_model.proofs.Histories.{own-between}
 use Rattle.machine.specs.Chains.{values_in, chain_from}
 use Rattle.machine.specs.Seats.{Saw}
 use Rattle.machine.specs.Words.{Tagged}
@@ -27,7 +27,8 @@ use Rattle.stack_machine.specs.Deeds.{IsPut, Deeds}
 use Rattle.stack_machine.specs.Machine.{Memory, memories, Outcome, table, placed, unplaced, wins_value, step}
 use Rattle.stack_machine.specs.Rule.{Lists, IsFine, Kept}
 use Rattle.stack_machine.proofs.Doing.{meanwhile}
-use Rattle.running.specs.Ties.{Adds, PutsSome, changes, changed_by}
+use Rattle.running.proofs.Changed.{holds_change_nothing, unchanged}
+use Rattle.running.specs.Ties.{Adds, PutsSome, changed_by}
 use Rattle.stack_table.specs.Effects.{effect_of}
 
 module _ {T : Type 0} where
@@ -39,10 +40,6 @@ module _ {T : Type 0} where
       whole [] left some_value all = absurd (omega arith)
       whole (w ∷ []) left some_value all = cc
       whole (w ∷ u ∷ values) left some_value all = cc
-
-  holds_change_nothing : (p k : ℕ) (older : List (Event T)) → filter changes (holds_of p k ++ older) ≡ filter changes older
-  holds_change_nothing p zero older = refl
-  holds_change_nothing p (suc k) older = holds_change_nothing p k older
 
   -- a put with a node for each of its first values puts these
   puts_some : (p : ℕ) (put : Putting T) (k : ℕ) → 0 < length put.chain → length put.chain ≤ length put.values → (call : Call T) → IsPut p call put.values → effect_of call p (Put p (placed put) k)
@@ -66,10 +63,6 @@ module _ {T : Type 0} (n limit : ℕ) (m : Memory T) (g : Lists) (p : ℕ) (call
   abbrev At : Line T → Type 0
   At l = Deeds c p call l begun h
 
-  -- a pass that has moved hands alone since it began has changed nothing since
-  unchanged : (events between : List (Event T)) → h ≡ between ++ begun → own p between ≡ events → filter changes (events ++ own p begun) ≡ changed_by p begun → changed_by p h ≡ changed_by p begun
-  unchanged events between is own_are none_changed = ap (changed_by p) is ∙ ap (filter changes) (own-append p between begun ∙ ap (λ (es : List (Event T)). es ++ own p begun) own_are) ∙ none_changed
-
   hand : (e : Event T) → changes e ≡ false → Adds (effect_of call p) p begun h (e ∷ [])
   hand e moves = (tt, inl moves)
 
@@ -78,7 +71,7 @@ module _ {T : Type 0} (n limit : ℕ) (m : Memory T) (g : Lists) (p : ℕ) (call
 
   -- the effect of a call that has made no event
   first : (call' : Call T) (e : Event T) (between : List (Event T)) → h ≡ between ++ begun → (call ≡ call') × (own p between ≡ []) → effect_of call' p e → Adds (effect_of call p) p begun h (e ∷ [])
-  first call' e between is made effect = does e (subst (λ (k : Call T). effect_of k p e) (sym made.0) effect) (unchanged [] between is made.1 refl)
+  first call' e between is made effect = does e (subst (λ (k : Call T). effect_of k p e) (sym made.0) effect) (unchanged p begun [] between is made.1 refl)
 
   took : (w : Tagged) (k : ℕ) → At (TakeTop w k) → (o : Option (Slot T)) → Is (wins_value m p w k o)
   took w k d none = tt
@@ -89,7 +82,7 @@ module _ {T : Type 0} (n limit : ℕ) (m : Memory T) (g : Lists) (p : ℕ) (call
   adds (TakeFree put w k) f d = (λ won. hand (Hold p) refl, tt)
   adds (SwapTop put w) f d =
       let k : ℕ = length put.chain in
-      let same : changed_by p h ≡ changed_by p begun = unchanged (holds_of p k) d.between d.is d.made.1 (holds_change_nothing p k (own p begun)) in
+      let same : changed_by p h ≡ changed_by p begun = unchanged p begun (holds_of p k) d.between d.is d.made.1 (holds_change_nothing p k) in
       (λ won. does (Put p (placed put) w.tag) (puts_some p put w.tag f.0.some_node f.0.few call d.made.0) same, tt)
   adds (TakeTop w k) f d = (λ won. took w k d (m.home w.index), tt)
   adds (TakeChain way w) f d =

@@ -14,7 +14,7 @@ use Rattle.machine.proofs.Tests.{cases}
 use Rattle.ring_machine.specs.declared.lines.Call.{Call}
 use Rattle.ring_machine.specs.declared.lines.Call.TheVariants.{Put as CallPut, Take as CallTake, Close as CallClose, Shut as CallShut, Look as CallLook, Len as CallLen, Gauge as CallGauge}
 use Rattle.ring_machine.specs.declared.lines.Line.TheVariants.{Idle}
-use Rattle.ring_machine.specs.Machine.{Memory, cell_of, first_of, resting}
+use Rattle.ring_machine.specs.Machine.{Memory, cell_of, first_of}
 use Rattle.ring_machine.specs.Machine as ring
 use Rattle.ring_machine.specs.Answers.{shape}
 use Rattle.ring_table.specs.declared.line.SeatLine.{SeatLine}
