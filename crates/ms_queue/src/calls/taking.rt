@@ -204,7 +204,12 @@ impl<T> Queue<T> {
             (is_call TakeCall) (pass_in by) result.0 result.1 }
         ensures new { HasNewCall by result.0 }
     {
-        self.take_as(rt, by)
+        let take = Operation::Take;
+        // Repeats `take_as`, for the reason that `put` gives.
+        match take_fast(self, by, &take) {
+            (pass, Next::Done(answer)) => told(pass, answer),
+            under_way => whole(rt, self, under_way, take),
+        }
     }
 
     /// Takes a value on the fast path alone, as `put_at_once` puts one. The call makes at most 12

@@ -185,7 +185,13 @@ impl<T> Stack<T> {
             (is_call (PutCall value)) (pass_in by) result.0 result.1 }
         ensures new { HasNewCall by result.0 }
     {
-        self.put_as(rt, by, value)
+        let Pass { pass, .. } = by;
+        let put = put_operation(&value);
+        // Repeats `put_as`, because each layer of a call that may wait costs two instructions.
+        match put_fast(self, pass, value, &put) {
+            (pass, Next::Done(answer)) => told(pass, answer),
+            under_way => whole(rt, self, under_way, put),
+        }
     }
 
     /// Puts a value on the fast path alone, with a wait of at most 640 spin hints if a

@@ -13,27 +13,15 @@ overflow_cast-result g c =
     let low : c.whole-pass.result.1 ≤ room_of q = omega (arith, gives.0.1.holds, within_capacity (shape_of q) gives.0.1.at (legal_before (shape_of q) gives.0.1.until b.ended.rests.legal)) in
     omega (arith, low, q.table.shared.key.capacity_in_range)
 
-pub returns-clause-of : goal.returns-clause-of
-returns-clause-of g c =
-    let b = c.whole-pass.ensures.rested c.args.by c.requires c.first_step-first.ensures.ran in
-    b.of
-
-pub returns-clause-gives : goal.returns-clause-gives
-returns-clause-gives g c =
-    let b = c.whole-pass.ensures.rested c.args.by c.requires c.first_step-first.ensures.ran in
-    (b.gives refl).0
-
-pub returns-clause-answered : goal.returns-clause-answered
-returns-clause-answered g c =
-    let b = c.whole-pass.ensures.rested c.args.by c.requires c.first_step-first.ensures.ran in
-    (b.gives refl).1
-
-pub returns-clause-ran : goal.returns-clause-ran
-returns-clause-ran g c =
-    let b = c.whole-pass.ensures.rested c.args.by c.requires c.first_step-first.ensures.ran in
-    b.ran
-
-pub returns-clause-new : goal.returns-clause-new
-returns-clause-new g c =
+pub returns : goal.returns
+returns g c =
     let q = c.args.self.now in
-    new_call (machine_with g.D.Tie.rule q) q.table.shared.table_id c.args.by c.requires.on c.whole-pass.result.0 (c.whole-pass.ensures.new c.args.by.pass c.first_step-first.ensures.ran)
+    let b = c.whole-pass.ensures.rested c.args.by c.requires c.first_step-first.ensures.ran in
+    let gives = b.gives refl in
+    record {
+      of = b.of;
+      gives = gives.0;
+      answered = gives.1;
+      ran = b.ran;
+      new = new_call (machine_with g.D.Tie.rule q) q.table.shared.table_id c.args.by c.requires.on c.whole-pass.result.0 (c.whole-pass.ensures.new c.args.by.pass c.first_step-first.ensures.ran);
+    }

@@ -12,35 +12,18 @@ use Rattle.treiber_stack.specs.Calls.{WasRunWith, machine_with, shape_of, pass_i
 use Rattle.treiber_stack.specs.code.Steps.{as_pass}
 use Rattle.treiber_stack.proofs.life.stack.Stack.is_empty.Goals as goal
 
-pub returns-clause-of : goal.returns-clause-of
-returns-clause-of g c = record { on = c.look_once-pass.ensures.of; keeps = tt }
-
-pub returns-clause-line : goal.returns-clause-line
-returns-clause-line g c = c.look_once-pass.ensures.line
-
-pub returns-clause-answered : goal.returns-clause-answered
-returns-clause-answered g c =
+pub returns : goal.returns
+returns g c =
     let stack = c.args.self.now in
-    let by = c.args.by.pass in
+    let m = machine_with g.D.Tie.rule stack in
     let made = c.look_once-pass in
-    subst (λ (v : PassView _). Answers v (pass_in (as_pass made.result.0)) (LookAnswered made.result.1)) (begun_is (machine_with g.D.Tie.rule stack) stack.table.shared.table_id by c.requires.on) made.ensures.ended.answered
-
-pub returns-clause-ran : goal.returns-clause-ran
-returns-clause-ran g c =
-    let stack = c.args.self.now in
-    let by = c.args.by.pass in
-    let made = c.look_once-pass in
-    subst (λ (v : PassView _). WasRunWith g.D.Tie.rule stack First v (as_pass made.result.0) (Answer made.result.1)) (begun_is (machine_with g.D.Tie.rule stack) stack.table.shared.table_id by c.requires.on) (made.ensures.ended.ran refl)
-
-pub returns-clause-gives : goal.returns-clause-gives
-returns-clause-gives g c =
-    let stack = c.args.self.now in
-    let by = c.args.by.pass in
-    let made = c.look_once-pass in
-    subst (λ (v : PassView _). LookGives (shape_of stack) v (pass_in (as_pass made.result.0)) made.result.1) (begun_is (machine_with g.D.Tie.rule stack) stack.table.shared.table_id by c.requires.on) (looked g.D.Tie.rule stack.table.shared.key First made.result.0.seat.me.0 _ made.result.1 made.ensures.ended)
-
-pub returns-clause-new : goal.returns-clause-new
-returns-clause-new g c =
-    let stack = c.args.self.now in
-    let made = c.look_once-pass in
-    new_call (machine_with g.D.Tie.rule stack) stack.table.shared.table_id c.args.by c.requires.on (as_pass made.result.0) (step_new (machine_with g.D.Tie.rule stack) made.ensures.line.0)
+    let back = as_pass made.result.0 in
+    let at_rest = begun_is m stack.table.shared.table_id c.args.by.pass c.requires.on in
+    record {
+      of = record { on = made.ensures.of; keeps = tt };
+      line = made.ensures.line;
+      gives = subst (λ (v : PassView _). LookGives (shape_of stack) v (pass_in back) made.result.1) at_rest (looked g.D.Tie.rule stack.table.shared.key First made.result.0.seat.me.0 _ made.result.1 made.ensures.ended);
+      answered = subst (λ (v : PassView _). Answers v (pass_in back) (LookAnswered made.result.1)) at_rest made.ensures.ended.answered;
+      ran = subst (λ (v : PassView _). WasRunWith g.D.Tie.rule stack First v back (Answer made.result.1)) at_rest (made.ensures.ended.ran refl);
+      new = new_call m stack.table.shared.table_id c.args.by c.requires.on back (step_new m made.ensures.line.0);
+    }

@@ -1,4 +1,4 @@
-use Rattle.std.proofs.Common.{◌≡◌, ℕ, List, rules, sym, ap, ◌∙◌, subst}
+use Rattle.std.proofs.Common.{ℕ, List, rules, sym, ap, ◌∙◌, subst}
 use Rattle.std.specs.Prelude.{Option as Slot}
 use Rattle.bounded_model.specs.declared.views.PassView.{PassView}
 use Rattle.bounded_model.specs.Bulk.{PutsRange, RangeAnswers, somes}
